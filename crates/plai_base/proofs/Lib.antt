@@ -1,0 +1,4 @@
+pub mod Ascending
+pub mod Bits
+pub mod Masks
+pub mod Sets

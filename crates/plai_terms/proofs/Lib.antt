@@ -1,0 +1,5 @@
+pub mod Joined
+pub mod Same
+pub mod Skeletons
+pub mod Substs
+pub mod Terms

@@ -1,0 +1,5 @@
+use Rattle.std.proofs.Common.{◌≡◌, take}
+use Rattle.plai_terms.proofs.skeleton.Skeleton.+copy.Given as goal
+
+abbrev pub invariant-copy_all-loop-item : goal.invariant-copy_all-loop-item
+invariant-copy_all-loop-item l = l.copies.items ≡ take l.item-index l.items

@@ -1,0 +1,4 @@
+pub mod formers
+pub mod Term
+pub mod Subst
+pub mod Print

@@ -1,0 +1,52 @@
+-- What the functions over terms compute.
+use Rattle.std.specs.Prelude.{ℕ, ◌+◌, Bool, true, false, nat_eq, nat_lt, max, fold, sum}
+use Rattle.std.specs.List.{list_any, list_all}
+use Rattle.plai_terms.specs.declared.term.Term.{Term, fold-Term}
+use Rattle.plai_terms.specs.declared.term.Term.TheOpen.{Term-F}
+
+-- a variable, integer or atom is 1 deep
+abbrev pub depth_step : Term-F ℕ → ℕ
+depth_step (Term-F.Var _) = 1
+depth_step (Term-F.Int _) = 1
+depth_step (Term-F.Atom _) = 1
+depth_step (Term-F.Compound _ depths) = 1 + fold max 0 depths
+
+abbrev pub depth_of : Term → ℕ
+depth_of = fold-Term ℕ depth_step
+
+abbrev pub size_step : Term-F ℕ → ℕ
+size_step (Term-F.Var _) = 1
+size_step (Term-F.Int _) = 1
+size_step (Term-F.Atom _) = 1
+size_step (Term-F.Compound _ sizes) = 1 + sum sizes
+
+abbrev pub size_of : Term → ℕ
+size_of = fold-Term ℕ size_step
+
+abbrev pub ground_step : Term-F Bool → Bool
+ground_step (Term-F.Var _) = false
+ground_step (Term-F.Int _) = true
+ground_step (Term-F.Atom _) = true
+ground_step (Term-F.Compound _ grounds) = list_all (λ b. b) grounds
+
+abbrev pub is_ground : Term → Bool
+is_ground = fold-Term Bool ground_step
+
+abbrev pub occurs_step : ℕ → Term-F Bool → Bool
+occurs_step v (Term-F.Var w) = nat_eq v w
+occurs_step v (Term-F.Int _) = false
+occurs_step v (Term-F.Atom _) = false
+occurs_step v (Term-F.Compound _ occurrences) = list_any (λ b. b) occurrences
+
+abbrev pub occurs : ℕ → Term → Bool
+occurs v = fold-Term Bool (occurs_step v)
+
+abbrev pub below_step : ℕ → Term-F Bool → Bool
+below_step limit (Term-F.Var v) = nat_lt v limit
+below_step limit (Term-F.Int _) = true
+below_step limit (Term-F.Atom _) = true
+below_step limit (Term-F.Compound _ belows) = list_all (λ b. b) belows
+
+-- each variable is numbered below the limit
+abbrev pub has_variables_below : ℕ → Term → Bool
+has_variables_below limit = fold-Term Bool (below_step limit)

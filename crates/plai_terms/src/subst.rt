@@ -1,0 +1,90 @@
+ghost use Rattle.std.specs.Prelude.{◌≡◌, [], ◌∷◌, IfOk, map, nat_eq};
+ghost use Rattle.std.specs.List.{IsDistinct};
+ghost use Rattle.plai_terms.specs.Subst.{bound_to, apply_of};
+
+use crate::non_empty::NonEmpty;
+use crate::term::{Args, Term};
+use std::alloc::{AllocError, Global};
+use std::marker::Model;
+
+/// Bindings of distinct variables, that contracts see as the list of pairs.
+#[derive(Drop)]
+pub struct Subst {
+    pairs: Vec<(u32, Term)>,
+}
+
+impl Model for Subst {
+    ghost use Rattle.std.specs.Prelude.{ℕ, List, map, nat_eq};
+    ghost use Rattle.std.specs.List.{IsDistinct};
+    ghost use Rattle.std.specs.Coded.{coded_list, coded×, coded_ℕ};
+    ghost use Rattle.plai_terms.specs.declared.term.Term.{Term};
+    ghost use Rattle.plai_terms.specs.contracts.term.Term as term;
+
+    ghost Value = { List (ℕ × Term) };
+
+    ghost coded = { coded_list (coded× coded_ℕ term.the_row.coded) };
+
+    ghost view = { λ s. s.pairs.items };
+
+    ghost invariant = { λ s. IsDistinct nat_eq (map (λ p. p.0) s.pairs.items) };
+}
+
+impl Subst {
+    pub fn new(pairs: Vec<(u32, Term)>) -> Subst
+        requires { IsDistinct nat_eq (map (λ p. p.0) pairs.items) }
+        ensures { result ≡ pairs.items }
+    {
+        Subst { pairs }
+    }
+
+    /// One binding.
+    pub fn single(alloc: Global, variable: u32, term: Term) -> Result<Subst, AllocError>
+        ensures { IfOk result (λ s. s ≡ (variable, term) ∷ []) }
+    {
+        Ok(Subst::new(vec![in alloc; (variable, term)]?))
+    }
+
+    pub fn as_slice(&self) -> &[(u32, Term)]
+        ensures { result.now ≡ self.now }
+    {
+        self.pairs.as_slice()
+    }
+
+    fn look_up(&self, alloc: Global, variable: u32) -> Result<Term, AllocError>
+        ensures { IfOk result (λ t. t ≡ bound_to self.now variable) }
+    {
+        for pair in self.as_slice() {
+            if pair.0 == variable {
+                return pair.1.copy(alloc);
+            }
+        }
+        Ok(Term::Var(variable))
+    }
+
+    /// Replaces each bound variable.
+    #[cycle(apply)]
+    pub fn apply(&self, alloc: Global, term: &Term) -> Result<Term, AllocError>
+        ensures { IfOk result (λ t. t ≡ apply_of self.now term.now) }
+    {
+        match term {
+            Term::Var(number) => self.look_up(alloc, *number),
+            Term::Int(value) => Ok(Term::Int(*value)),
+            Term::Atom(name) => Ok(Term::Atom(name.copy(alloc)?)),
+            Term::Compound(name, args) => Ok(Term::Compound(
+                name.copy(alloc)?,
+                self.apply_to_all(alloc, args)?,
+            )),
+        }
+    }
+
+    #[cycle(apply)]
+    fn apply_to_all(&self, alloc: Global, args: &Args) -> Result<Args, AllocError>
+        ensures { IfOk result (λ all. all ≡ map (apply_of self.now) args.now) }
+    {
+        let mut items = Vec::new(alloc);
+        for arg in args.as_slice() {
+            items.push(self.apply(alloc, arg)?)?;
+        }
+        Ok(NonEmpty::new(items))
+    }
+}
