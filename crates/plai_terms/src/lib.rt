@@ -3,14 +3,17 @@
 
 mod abs;
 mod atom;
+mod groups;
 mod listed;
 mod name;
 mod non_empty;
+mod pattern;
 mod pred_key;
 mod print;
 mod prop;
 mod read_term;
 mod row_name;
+mod shape;
 mod skeleton;
 mod subst;
 mod term;
@@ -20,6 +23,7 @@ pub use atom::{print_atom, print_name, print_quoted};
 pub use listed::Listed;
 pub use name::Name;
 pub use non_empty::NonEmpty;
+pub use pattern::print_abs;
 pub use pred_key::PredKey;
 pub use print::print_term;
 pub use prop::Prop;
