@@ -1,5 +1,7 @@
 pub mod GroupOrder
 pub mod Joined
+pub mod PatternTexts
+pub mod RowOrders
 pub mod Same
 pub mod Shapes
 pub mod Skeletons

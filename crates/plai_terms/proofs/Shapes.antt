@@ -45,7 +45,7 @@ IsSmall All = Unit {0}
 IsSmall None = Unit {0}
 IsSmall (Node i a b) = (i < 2 ^ 64) × IsSmall a × IsSmall b
 
-abbrev head_of : List ℕ → ℕ
+abbrev pub head_of : List ℕ → ℕ
 head_of [] = 0
 head_of (x ∷ xs) = x
 

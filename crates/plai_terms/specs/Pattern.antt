@@ -1,8 +1,9 @@
 -- The text of a pattern: what a call's or an answer's arguments may be.
-use Rattle.std.specs.Prelude.{ℕ, Bool, ◌||◌, nat_eq, List, ◌++◌, map, length, if◌then◌else◌, codes}
+use Rattle.std.specs.Prelude.{◌≡◌, ℕ, ◌^◌, ⊤, Bool, ◌||◌, nat_eq, List, ◌++◌, map, length, if◌then◌else◌, codes}
 use Rattle.std.specs.Fmt.{signed_decimal}
 use Rattle.std.specs.List.{join_with_byte}
 use Rattle.std.specs.Cmp.Lexicographic.{pointwise}
+use Rattle.plai_base.specs.Sets.{IsSet}
 use Rattle.plai_terms.specs.Atom.{quoted_text, atom_text}
 use Rattle.plai_terms.specs.Shape.{set_text}
 use Rattle.plai_terms.specs.Groups.{groups_text}
@@ -47,3 +48,10 @@ arity_of Nothing = 0
 arity_of (Pos arity masks) = arity
 arity_of (Groups arity groups free) = arity
 arity_of (Terms skeletons) = length skeletons
+
+-- none, or a set of assignments to n arguments
+abbrev pub IsGroundness : ℕ → Abs → Type 0
+IsGroundness n Nothing = ⊤
+IsGroundness n (Pos arity masks) = (arity ≡ n) × IsSet (2 ^ n) masks
+IsGroundness n (Groups arity groups free) = ⊥
+IsGroundness n (Terms skeletons) = ⊥

@@ -23,3 +23,7 @@ name_order a b = ordering_then (pred_order a.pred b.pred) (text_order (pattern_t
 -- the row with the first name stands before the row with the second
 abbrev pub IsBefore : RowName → RowName → Type 0
 IsBefore a b = name_order a b ≡ Less
+
+-- names of one predicate whose calls have one text
+abbrev pub HaveSameText : RowName → RowName → Type 0
+HaveSameText a b = (a.pred ≡ b.pred) × (pattern_text a.call ≡ pattern_text b.call)

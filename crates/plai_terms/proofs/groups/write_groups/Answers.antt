@@ -1,4 +1,4 @@
-use Rattle.std.proofs.Common.{◌≡◌, ◌++◌, List, ℕ, map, codes, sym, ap, ◌∙◌}
+use Rattle.std.proofs.Common.{◌++◌, map, codes, sym, ap, ◌∙◌}
 use Rattle.std.specs.List.{join_with_byte}
 use Rattle.plai_base.specs.Mask.{slots_of}
 use Rattle.plai_terms.specs.Groups.{ordered, slot_text, group_text}

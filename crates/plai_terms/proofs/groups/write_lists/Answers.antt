@@ -1,6 +1,6 @@
-use Rattle.std.proofs.Common.{◌++◌, sym, ap, ◌∙◌, arith}
+use Rattle.std.proofs.Common.{◌++◌, ap, ◌∙◌, arith}
 use Rattle.plai_terms.specs.Groups.{group_text}
-use Rattle.plai_terms.proofs.Joined.{get_or_any, joins_first, joins_next}
+use Rattle.plai_terms.proofs.Joined.{joins_first, joins_next}
 use Rattle.plai_terms.proofs.groups.write_lists.Goals as goal
 use Rattle.plai_terms.proofs.groups.write_lists.Goals.{then-i-gt0+in_ok-push, else-i-gt0}
 

@@ -1,4 +1,4 @@
-use Rattle.std.proofs.Common.{◌++◌, sym, ap, ◌∙◌, arith}
+use Rattle.std.proofs.Common.{ap, ◌∙◌, arith}
 use Rattle.plai_terms.specs.Groups.{slot_text}
 use Rattle.plai_terms.proofs.Joined.{get_or_any, joins_first, joins_next}
 use Rattle.plai_terms.proofs.groups.write_slots.Goals as goal

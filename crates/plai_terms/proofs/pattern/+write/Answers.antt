@@ -1,6 +1,6 @@
-use Rattle.std.proofs.Common.{◌++◌, sym, ap, ◌∙◌, arith}
+use Rattle.std.proofs.Common.{ap, ◌∙◌, arith}
 use Rattle.plai_terms.specs.Pattern.{skeleton_text}
-use Rattle.plai_terms.proofs.Joined.{get_or_any, joins_first, joins_next}
+use Rattle.plai_terms.proofs.Joined.{joins_first, joins_next}
 use Rattle.plai_terms.proofs.pattern.+write.Goals as goal
 use Rattle.plai_terms.proofs.pattern.+write.Goals.{write_skeletons-then-i-gt0+in_ok-push, write_skeletons-else-i-gt0}
 

@@ -1,4 +1,4 @@
-use Rattle.std.proofs.Common.{◌≡◌, sym, arith}
+use Rattle.std.proofs.Common.{sym, arith}
 use Rattle.plai_terms.specs.Shape.{entry}
 use Rattle.plai_terms.proofs.Tables.{depends_none, depends_next, depends_from}
 use Rattle.plai_terms.proofs.shape.depends.Goals as goal

@@ -1,6 +1,5 @@
-use Rattle.std.proofs.Common.{◌≡◌, ◌+◌, ◌++◌, List, ℕ, OnOk, sym, ap, ◌∙◌, arith, subst, false, slice_index_or, zero-add}
-use Rattle.plai_base.specs.Sets.{has}
-use Rattle.plai_terms.specs.Shape.{shape, shape_text, entry}
+use Rattle.std.proofs.Common.{◌≡◌, ◌++◌, List, ℕ, OnOk, ap, subst}
+use Rattle.plai_terms.specs.Shape.{shape_text}
 use Rattle.plai_terms.proofs.Tables.{table_shape}
 use Rattle.plai_terms.proofs.shape.write_set.Goals as goal
 
