@@ -1,4 +1,9 @@
 pub mod formers
 pub mod Term
 pub mod Subst
+pub mod Atom
 pub mod Print
+pub mod Shape
+pub mod Groups
+pub mod Pattern
+pub mod RowOrder
