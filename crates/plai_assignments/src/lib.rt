@@ -1,0 +1,2 @@
+//! Groundness: sets of assignments of truth to slots, as an abstract domain, and its laws.
+#![tactic(auto)]
