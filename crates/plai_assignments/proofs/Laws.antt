@@ -8,7 +8,7 @@ use Rattle.plai_terms.specs.declared.abs.Abs.TheVariants.{Pos}
 use Rattle.plai_domain.specs.declared.action.Action.{Action}
 use Rattle.plai_domain.specs.Plain.{StateView, UpTo}
 use Rattle.plai_domain.specs.Instances.{all_below, speaks_within, acts_within}
-use Rattle.plai_assignments.specs.Assignments.{IsPositive, LeqModels, describe_of, refine_of, join_of, rank_of}
+use Rattle.plai_assignments.specs.Assignments.{IsPositive, LeqModels, refine_of, join_of, rank_of}
 use Rattle.plai_assignments.specs.Groundness.{masks_of, arity_of, Leq, Below, state_with, state_from, groundness}
 use Rattle.plai_assignments.proofs.Order.{LeqModels-trans, LeqModels-antisym, LeqModels-refl, join_first, join_second, join_least, enter_order, call_order, back_order, exit_order}
 use Rattle.plai_assignments.proofs.Properties.{value_describe}

@@ -10,3 +10,4 @@ pub mod Properties
 pub mod Rank
 pub mod Refine
 pub mod Sound
+pub mod Soundness
