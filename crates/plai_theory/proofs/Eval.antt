@@ -12,18 +12,18 @@ Meets d s t low high = (p : d.Pred) (v w : d.Value) → IsIn (name_of d p v) low
 abbrev pub IsPart : (d : Domain) → List (Step d.Literal d.Action) → d.Clause → Type 0
 IsPart d steps c = (x : Step d.Literal d.Action) → IsIn x steps → IsIn x (d.body c)
 
-module _ (d : Domain) (g : Program d) (laws : IsLawful d g) (s t : Source d) (c : d.Clause) where
+module _ (d : Domain) (g : Program d) (laws : IsLawful d g) (s t : Source d) (o : d.Pred) (c : d.Clause) (inside : IsIn c (g.clauses o)) where
   final_le : (steps : List (Step d.Literal d.Action)) → IsPart d steps c → (a b : d.State) → d.below c a b → Meets d s t (calls_along d s steps a) (calls_along d t steps b) → UpTo (d.below c) (state_behind d s steps a) (state_behind d t steps b)
   unfolding state_behind calls_along
   final_le [] part a b h m = h
   final_le (Do x ∷ rest) part a b h m =
-      given_up_to (d.below c) (d.below c) (d.refine x a) (d.refine x b) _ _ (laws.refine c x a b (part _ (inl refl)) h)
+      given_up_to (d.below c) (d.below c) (d.refine x a) (d.refine x b) _ _ (laws.refine o c x a b inside (part _ (inl refl)) h)
       (λ a' b' ea eb k. final_le rest (λ y i. part y (inr i)) a' b' k
       (λ p v w i j le. m p v w (in_given _ (d.refine x a) _ a' ea i) (in_given _ (d.refine x b) _ b' eb j) le))
   final_le (Goal l ∷ rest) part a b h m =
       given_up_to (d.leq (d.callee l)) (d.below c) (s (d.callee l) (d.call l a)) (t (d.callee l) (d.call l b)) _ _
-      (m (d.callee l) (d.call l a) (d.call l b) (inl refl) (inl refl) (laws.call c l a b (part _ (inl refl)) h))
-      (λ x y ex ey xy. given_up_to (d.below c) (d.below c) (d.back l a x) (d.back l b y) _ _ (laws.back c l a b x y (part _ (inl refl)) h xy)
+      (m (d.callee l) (d.call l a) (d.call l b) (inl refl) (inl refl) (laws.call o c l a b inside (part _ (inl refl)) h))
+      (λ x y ex ey xy. given_up_to (d.below c) (d.below c) (d.back l a x) (d.back l b y) _ _ (laws.back o c l a b x y inside (part _ (inl refl)) h xy)
       (λ a' b' ea eb k. final_le rest (λ z i. part z (inr i)) a' b' k
       (λ p v w i j le. m p v w (inr (in_given _ (s (d.callee l) (d.call l a)) _ x ex (in_given _ (d.back l a x) _ a' ea i))) (inr (in_given _ (t (d.callee l) (d.call l b)) _ y ey (in_given _ (d.back l b y) _ b' eb j))) le)))
 
@@ -33,19 +33,19 @@ module _ (d : Domain) (g : Program d) (laws : IsLawful d g) (s t : Source d) (c 
   calls_le [] part a b h m p v i = absurd i
   calls_le (Do x ∷ rest) part a b h m p v i =
       given_in _ (name_of d p v) (d.refine x a) _ i (λ a' ea i'.
-      let (b', eb, k) = upper_of (d.below c) (d.refine x a) (d.refine x b) a' (laws.refine c x a b (part _ (inl refl)) h) ea in
+      let (b', eb, k) = upper_of (d.below c) (d.refine x a) (d.refine x b) a' (laws.refine o c x a b inside (part _ (inl refl)) h) ea in
       let (w, j, le) = calls_le rest (λ y i. part y (inr i)) a' b' k
       (λ p v w i j le. m p v w (in_given _ (d.refine x a) _ a' ea i) (in_given _ (d.refine x b) _ b' eb j) le) p v i' in
       (w, in_given _ (d.refine x b) _ b' eb j, le))
   calls_le (Goal l ∷ rest) part a b h m p v (inl e) =
       subst (λ (x : NameOf d). (w : d.Value) × IsIn (name_of d x.pred w) (calls_along d t (Goal l ∷ rest) b) × d.leq x.pred x.call w) e
-      (d.call l b, inl refl, laws.call c l a b (part _ (inl refl)) h)
+      (d.call l b, inl refl, laws.call o c l a b inside (part _ (inl refl)) h)
   calls_le (Goal l ∷ rest) part a b h m p v (inr i) =
       given_in _ (name_of d p v) (s (d.callee l) (d.call l a)) _ i (λ x ex i1.
       given_in _ (name_of d p v) (d.back l a x) _ i1 (λ a' ea i2.
-      let le : d.leq (d.callee l) (d.call l a) (d.call l b) = laws.call c l a b (part _ (inl refl)) h in
+      let le : d.leq (d.callee l) (d.call l a) (d.call l b) = laws.call o c l a b inside (part _ (inl refl)) h in
       let (y, ey, xy) = upper_of (d.leq (d.callee l)) (s (d.callee l) (d.call l a)) (t (d.callee l) (d.call l b)) x (m _ _ _ (inl refl) (inl refl) le) ex in
-      let (b', eb, k) = upper_of (d.below c) (d.back l a x) (d.back l b y) a' (laws.back c l a b x y (part _ (inl refl)) h xy) ea in
+      let (b', eb, k) = upper_of (d.below c) (d.back l a x) (d.back l b y) a' (laws.back o c l a b x y inside (part _ (inl refl)) h xy) ea in
       let (w, j, wle) = calls_le rest (λ z i. part z (inr i)) a' b' k
       (λ p v w i j le. m p v w (inr (in_given _ (s (d.callee l) (d.call l a)) _ x ex (in_given _ (d.back l a x) _ a' ea i))) (inr (in_given _ (t (d.callee l) (d.call l b)) _ y ey (in_given _ (d.back l b y) _ b' eb j))) le) p v i2 in
       (w, inr (in_given _ (t (d.callee l) (d.call l b)) _ y ey (in_given _ (d.back l b y) _ b' eb j)), wle)))
@@ -83,7 +83,7 @@ module _ (d : Domain) (g : Program d) (laws : IsLawful d g) (s t : Source d) (p 
   answer_le v w h m =
       given_up_to (d.below c) (d.leq p) (d.enter c v) (d.enter c w) _ _ (laws.enter p c v w inside h) (λ a b ea eb k.
       given_up_to (d.below c) (d.leq p) (state_behind d s (d.body c) a) (state_behind d t (d.body c) b) _ _
-      (final_le d g laws s t c (d.body c) (λ x i. i) a b k (λ q x y i j le. m q x y (in_given _ (d.enter c v) _ a ea i) (in_given _ (d.enter c w) _ b eb j) le))
+      (final_le d g laws s t p c inside (d.body c) (λ x i. i) a b k (λ q x y i j le. m q x y (in_given _ (d.enter c v) _ a ea i) (in_given _ (d.enter c w) _ b eb j) le))
       (λ a' b' ea' eb' k'. laws.exit p c a' b' inside k'))
 
   pub called_le : (v w : d.Value) → d.leq p v w → Meets d s t (calls_of d s c v) (calls_of d t c w) → (q : d.Pred) (x : d.Value) → IsIn (name_of d q x) (calls_of d s c v) → (y : d.Value) × IsIn (name_of d q y) (calls_of d t c w) × d.leq q x y
@@ -91,7 +91,7 @@ module _ (d : Domain) (g : Program d) (laws : IsLawful d g) (s t : Source d) (p 
   called_le v w h m q x i =
       given_in _ (name_of d q x) (d.enter c v) _ i (λ a ea i'.
       let (b, eb, k) = upper_of (d.below c) (d.enter c v) (d.enter c w) a (laws.enter p c v w inside h) ea in
-      let (y, j, le) = calls_le d g laws s t c (d.body c) (λ x i. i) a b k
+      let (y, j, le) = calls_le d g laws s t p c inside (d.body c) (λ x i. i) a b k
       (λ p x z i j le. m p x z (in_given _ (d.enter c v) _ a ea i) (in_given _ (d.enter c w) _ b eb j) le) q x i' in
       (y, in_given _ (d.enter c w) _ b eb j, le))
 

@@ -59,9 +59,9 @@ lawful =
       join_least = λ h k. tt;
       enter = λ p c v w i h. tt;
       exit = λ p c s t i h. tt;
-      call = λ c l s t i h. tt;
-      back = λ c l s t a b i h k. tt;
-      refine = λ c x s t i h. tt;
+      call = λ p c l s t i j h. tt;
+      back = λ p c l s t a b i j h k. tt;
+      refine = λ p c x s t i j h. tt;
       entries = λ p v i. tt;
       same_true = λ x y e. (let k : x.pred ≡ y.pred = eqb-true x.pred y.pred e in λ i. record { pred = k i; call = tt });
       same_refl = λ x. nat_eq_refl x.pred;

@@ -33,31 +33,31 @@ either : {A B C D : Type 0} → (A → C) → (B → D) → A ⊎ B → C ⊎ D
 either f g (inl a) = inl (f a)
 either f g (inr b) = inr (g b)
 
-module _ (d : Domain) (g : Program d) (laws : IsLawful d g) (limits : Limits d) (mono : IsMonotone d g limits) (s t : Source d) (c : d.Clause) where
+module _ (d : Domain) (g : Program d) (laws : IsLawful d g) (limits : Limits d) (mono : IsMonotone d g limits) (s t : Source d) (q : d.Pred) (c : d.Clause) (inside : IsIn c (g.clauses q)) where
   along_le : (steps : List (Step d.Literal d.Action)) → IsPart d steps c → (a b : d.State) → d.below c a b → Meets d s t (calls_along d s steps a) (calls_along d t steps b) → IsOverAlong d limits s steps a → IsOverAlong d limits t steps b
   unfolding calls_along
   along_le [] part a b h m o = absurd o
   along_le (Do x ∷ rest) part a b h m o =
-      either (mono.refine c x a b (part _ (inl refl)) h)
-      (has_up_to (d.below c) _ _ (d.refine x a) (d.refine x b) (laws.refine c x a b (part _ (inl refl)) h) (λ a' b' ea eb k.
+      either (mono.refine q c x a b inside (part _ (inl refl)) h)
+      (has_up_to (d.below c) _ _ (d.refine x a) (d.refine x b) (laws.refine q c x a b inside (part _ (inl refl)) h) (λ a' b' ea eb k.
       along_le rest (λ y i. part y (inr i)) a' b' k (λ p v w i j le. m p v w (in_given _ (d.refine x a) _ a' ea i) (in_given _ (d.refine x b) _ b' eb j) le)))
       o
   along_le (Goal l ∷ rest) part a b h m o =
       let at : IsIn (Goal l) (d.body c) = part _ (inl refl) in
-      either (mono.call c l a b at h)
-      (has_up_to (d.leq (d.callee l)) _ _ (s (d.callee l) (d.call l a)) (t (d.callee l) (d.call l b)) (m (d.callee l) (d.call l a) (d.call l b) (inl refl) (inl refl) (laws.call c l a b at h)) (λ x y ex ey xy.
-      either (mono.back c l a b x y at h xy)
-      (has_up_to (d.below c) _ _ (d.back l a x) (d.back l b y) (laws.back c l a b x y at h xy) (λ a' b' ea eb k.
+      either (mono.call q c l a b inside at h)
+      (has_up_to (d.leq (d.callee l)) _ _ (s (d.callee l) (d.call l a)) (t (d.callee l) (d.call l b)) (m (d.callee l) (d.call l a) (d.call l b) (inl refl) (inl refl) (laws.call q c l a b inside at h)) (λ x y ex ey xy.
+      either (mono.back q c l a b x y inside at h xy)
+      (has_up_to (d.below c) _ _ (d.back l a x) (d.back l b y) (laws.back q c l a b x y inside at h xy) (λ a' b' ea eb k.
       along_le rest (λ z i. part z (inr i)) a' b' k
       (λ p v w i j le. m p v w (inr (in_given _ (s (d.callee l) (d.call l a)) _ x ex (in_given _ (d.back l a x) _ a' ea i))) (inr (in_given _ (t (d.callee l) (d.call l b)) _ y ey (in_given _ (d.back l b y) _ b' eb j))) le)))))
       o
 
-  pub over_le : (p : d.Pred) → IsIn c (g.clauses p) → (v w : d.Value) → d.leq p v w → Meets d s t (calls_of d s c v) (calls_of d t c w) → IsOverAt d limits s c v → IsOverAt d limits t c w
+  pub over_le : (v w : d.Value) → d.leq q v w → Meets d s t (calls_of d s c v) (calls_of d t c w) → IsOverAt d limits s c v → IsOverAt d limits t c w
   unfolding calls_of
-  over_le p inside v w h m o =
-      either (mono.enter p c v w inside h)
-      (has_up_to (d.below c) _ _ (d.enter c v) (d.enter c w) (laws.enter p c v w inside h) (λ a b ea eb k.
-      along_le (d.body c) (λ x i. i) a b k (λ q x y i j le. m q x y (in_given _ (d.enter c v) _ a ea i) (in_given _ (d.enter c w) _ b eb j) le)))
+  over_le v w h m o =
+      either (mono.enter q c v w inside h)
+      (has_up_to (d.below c) _ _ (d.enter c v) (d.enter c w) (laws.enter q c v w inside h) (λ a b ea eb k.
+      along_le (d.body c) (λ x i. i) a b k (λ r x y i j le. m r x y (in_given _ (d.enter c v) _ a ea i) (in_given _ (d.enter c w) _ b eb j) le)))
       o
 
 module _ (d : Domain) (limits : Limits d) (s t : Source d) where
@@ -89,7 +89,7 @@ module _ (d : Domain) (g : Program d) (laws : IsLawful d g) (limits : Limits d) 
         reached = reach_more d g (stage d g n) n (omega arith) r;
         clause = c;
         is_clause = i;
-        over = over_le d g laws limits mono s (stage d g n) c x.pred i x.call w (laws.trans near.le le) (λ q u z l k uz. below_stage d g laws s low n (omega arith) q u z uz) o;
+        over = over_le d g laws limits mono s (stage d g n) x.pred c i x.call w (laws.trans near.le le) (λ q u z l k uz. below_stage d g laws s low n (omega arith) q u z uz) o;
       }
 
   -- Theorem: where the program is over, so is an evaluation at a name that a settled source from below reaches.
@@ -104,7 +104,7 @@ module _ (d : Domain) (g : Program d) (laws : IsLawful d g) (limits : Limits d) 
         (
           over.clause,
           over.is_clause,
-          over_le d g laws limits mono (stage d g n) s over.clause over.name.pred over.is_clause over.name.call w le
+          over_le d g laws limits mono (stage d g n) s over.name.pred over.clause over.is_clause over.name.call w le
               (λ q u z l k uz. under q u z (reached_calls d g s over.name.pred w r over.clause over.is_clause q z k) uz) over.over,
         ),
       )

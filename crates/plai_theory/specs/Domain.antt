@@ -60,12 +60,12 @@ pub record IsLawful (d : Domain) (g : Program d) : Type 0 where
       → UpTo (d.below c) (d.enter c v) (d.enter c w)
   pub exit : (p : d.Pred) (c : d.Clause) (s t : d.State) → IsIn c (g.clauses p) → d.below c s t
       → d.leq p (d.exit c s) (d.exit c t)
-  pub call : (c : d.Clause) (l : d.Literal) (s t : d.State) → IsIn (Goal l) (d.body c) → d.below c s t
-      → d.leq (d.callee l) (d.call l s) (d.call l t)
-  pub back : (c : d.Clause) (l : d.Literal) (s t : d.State) (a b : d.Value) → IsIn (Goal l) (d.body c) → d.below c s t
-      → d.leq (d.callee l) a b → UpTo (d.below c) (d.back l s a) (d.back l t b)
-  pub refine : (c : d.Clause) (x : d.Action) (s t : d.State) → IsIn (Do x) (d.body c) → d.below c s t
-      → UpTo (d.below c) (d.refine x s) (d.refine x t)
+  pub call : (p : d.Pred) (c : d.Clause) (l : d.Literal) (s t : d.State) → IsIn c (g.clauses p) → IsIn (Goal l) (d.body c)
+      → d.below c s t → d.leq (d.callee l) (d.call l s) (d.call l t)
+  pub back : (p : d.Pred) (c : d.Clause) (l : d.Literal) (s t : d.State) (a b : d.Value) → IsIn c (g.clauses p)
+      → IsIn (Goal l) (d.body c) → d.below c s t → d.leq (d.callee l) a b → UpTo (d.below c) (d.back l s a) (d.back l t b)
+  pub refine : (p : d.Pred) (c : d.Clause) (x : d.Action) (s t : d.State) → IsIn c (g.clauses p) → IsIn (Do x) (d.body c)
+      → d.below c s t → UpTo (d.below c) (d.refine x s) (d.refine x t)
   -- each entry's call is a value
   pub entries : (p : d.Pred) (v : d.Value) → IsIn (record { pred = p; call = v }) g.entries → d.leq p v v
   pub same_true : (x y : Name d.Pred d.Value) → d.same_name x y ≡ true → x ≡ y

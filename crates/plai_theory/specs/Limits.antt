@@ -17,12 +17,12 @@ pub record Limits (d : Domain) : Type 1 where
 pub record IsMonotone (d : Domain) (g : Program d) (limits : Limits d) : Type 0 where
   pub enter : (p : d.Pred) (c : d.Clause) (v w : d.Value) → IsIn c (g.clauses p) → d.leq p v w
       → limits.enter c v → limits.enter c w
-  pub call : (c : d.Clause) (l : d.Literal) (s t : d.State) → IsIn (Goal l) (d.body c) → d.below c s t
-      → limits.call l s → limits.call l t
-  pub back : (c : d.Clause) (l : d.Literal) (s t : d.State) (a b : d.Value) → IsIn (Goal l) (d.body c) → d.below c s t
-      → d.leq (d.callee l) a b → limits.back l s a → limits.back l t b
-  pub refine : (c : d.Clause) (x : d.Action) (s t : d.State) → IsIn (Do x) (d.body c) → d.below c s t
-      → limits.refine x s → limits.refine x t
+  pub call : (p : d.Pred) (c : d.Clause) (l : d.Literal) (s t : d.State) → IsIn c (g.clauses p) → IsIn (Goal l) (d.body c)
+      → d.below c s t → limits.call l s → limits.call l t
+  pub back : (p : d.Pred) (c : d.Clause) (l : d.Literal) (s t : d.State) (a b : d.Value) → IsIn c (g.clauses p)
+      → IsIn (Goal l) (d.body c) → d.below c s t → d.leq (d.callee l) a b → limits.back l s a → limits.back l t b
+  pub refine : (p : d.Pred) (c : d.Clause) (x : d.Action) (s t : d.State) → IsIn c (g.clauses p) → IsIn (Do x) (d.body c)
+      → d.below c s t → limits.refine x s → limits.refine x t
 
 -- one of these steps is over
 abbrev pub IsOverAlong : (d : Domain) → Limits d → Source d → List (Step d.Literal d.Action) → d.State → Type 0
