@@ -1,2 +1,4 @@
 pub mod Bytes
 pub mod Lexemes
+pub mod Tokens
+pub mod Written

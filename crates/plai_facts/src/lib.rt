@@ -2,4 +2,11 @@
 #![tactic(auto)]
 
 mod class;
+mod facts;
+mod fail;
+mod frame;
 mod lexeme;
+mod token;
+
+pub use facts::Facts;
+pub use fail::FactsFail;

@@ -1,0 +1,18 @@
+//! What a file of facts says.
+use plai_clauses::{Clause, Entry};
+use plai_terms::{Listed, Name};
+
+/// The module of a file, its entries and its facts, in the order of the file. The facts are clauses without a body.
+#[derive(Debug, Drop)]
+pub struct Facts {
+    pub module: Name,
+    pub entries: Listed<Entry>,
+    pub clauses: Listed<Clause>,
+}
+
+/// What a term behind the first one adds.
+#[derive(Debug, Drop)]
+pub enum Item {
+    Entry(Entry),
+    Fact(Clause),
+}
