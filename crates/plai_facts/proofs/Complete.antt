@@ -66,7 +66,7 @@ deep-args (a ∷ args) some = omega (arith, fold-max-above (map depth_of args) (
 compound-read : (name : List ℕ) (args : List Term) → AllByRecursion IsRead args → IsRead (Compound name args)
 compound-read name args h fs facts rest deep narrow =
     let tests = both (nat_le 1 (length (map is_narrow args)) && nat_le (length (map is_narrow args)) 255) (list_all (λ b. b) (map is_narrow args))
-        (sym (is_narrow-Compound name args) ∙ narrow) in
+    (sym (is_narrow-Compound name args) ∙ narrow) in
     let bounds = both (nat_le 1 (length (map is_narrow args))) (nat_le (length (map is_narrow args)) 255) tests.0 in
     let len = length-map args is_narrow in
     let some : 1 ≤ length args = grind (arith, nat_tests) in
@@ -97,6 +97,8 @@ terms-read (t ∷ ts) facts small =
     let parts = both (nat_le (depth_of t) 2000) (is_narrow t) smalls.0 in
     let deep : 0 + depth_of t ≤ 2000 = grind (arith, nat_tests) in
     let after : (v : Option Facts) → after_end (all_written ts) v ≡ option_and_then (λ f. facts_from (Some f) ts) v =
-        λ v. elim v as (λ w. after_end (all_written ts) w ≡ option_and_then (λ f. facts_from (Some f) ts) w) [
-        None ↦ refl | Some f ↦ terms-read ts (Some f) smalls.1 ] in
+    λ v. elim v as (λ w. after_end (all_written ts) w ≡ option_and_then (λ f. facts_from (Some f) ts) w) [
+      | None ↦ refl
+      | Some f ↦ terms-read ts (Some f) smalls.1
+    ] in
     term-read t [] facts (token.End ∷ all_written ts) deep parts.1 ∙ after (with_term facts t)

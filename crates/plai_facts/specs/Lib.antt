@@ -5,3 +5,4 @@ pub mod Written
 pub mod Program
 pub mod File
 pub mod Machine
+pub mod Outcomes

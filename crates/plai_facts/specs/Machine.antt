@@ -1,11 +1,14 @@
 -- One pass over tokens: what each token does to the open compounds, the last one first, and to the term that was read
 -- last. Only contracts of private functions cite it; that it gives the form of a file is proved.
-use Rattle.std.specs.Prelude.{ℕ, Bool, cond, nat_lt, Option, Some, None, option_map, option_and_then, length, List, [], ◌∷◌, ◌++◌}
+use Rattle.std.specs.Prelude.{ℕ, Bool, cond, nat_lt, Option, Some, None, option_map, option_and_then, length, List, [], ◌∷◌, ◌++◌, drop}
 use Rattle.plai_terms.specs.declared.term.Term.{Term, Var, Int, Atom, Compound}
 use Rattle.plai_facts.specs.declared.facts.Facts.{Facts}
 use Rattle.plai_facts.specs.declared.frame.Frame.{Frame}
 use Rattle.plai_facts.specs.declared.token.Token.{Token}
 use Rattle.plai_facts.specs.declared.token.Token.TheVariants as token
+use Rattle.plai_facts.specs.Bytes.{is_layout}
+use Rattle.plai_facts.specs.Lexemes.{lexeme_of, rest_of}
+use Rattle.plai_facts.specs.Tokens.{token_of, names_behind, text_at, tokens_from}
 use Rattle.plai_facts.specs.Program.{with_term}
 
 pub record Reading : Type 0 where
@@ -62,3 +65,24 @@ run r (t ∷ ts) = option_and_then (λ s. run s ts) (performed t r)
 
 abbrev pub start : Reading
 start = reading [] None None
+
+-- a place in a text: the names of the variables so far in a term, what was read, and the rest
+pub record Place : Type 0 where
+  pub names : List (List ℕ)
+  pub reading : Reading
+  pub rest : List ℕ
+
+-- the place behind a token or a byte of layout
+abbrev pub place_behind : List (List ℕ) → Reading → ℕ → List ℕ → Option Place
+place_behind names r b bs = cond (is_layout b)
+    (Some (record { names = names; reading = r; rest = bs }))
+    (option_and_then (λ found. option_and_then (λ t. option_map (λ s.
+    record { names = names_behind names found.lexeme (text_at b bs found); reading = s; rest = drop (rest_of found) bs })
+    (performed t r)) (token_of names found.lexeme (text_at b bs found))) (lexeme_of b bs))
+
+-- what the rest of a text gives
+abbrev pub given : List (List ℕ) → Reading → List ℕ → Option Facts
+given names r text = option_and_then (run r) (tokens_from 0 names text)
+
+unfoldable pub read_of : List ℕ → Option Facts
+read_of text = given [] start text

@@ -7,6 +7,7 @@ mod fail;
 mod frame;
 mod lexeme;
 mod token;
+mod tokens;
 
 pub use facts::Facts;
 pub use fail::FactsFail;
