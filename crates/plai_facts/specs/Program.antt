@@ -10,6 +10,7 @@ use Rattle.plai_clauses.specs.Builtins.{is_key, is_definable}
 use Rattle.plai_clauses.specs.declared.clause.Clause.{Clause}
 use Rattle.plai_clauses.specs.declared.entry.Entry.{Entry}
 use Rattle.plai_facts.specs.declared.facts.Facts.{Facts}
+use Rattle.plai_facts.specs.declared.facts.Goal.{Goal}
 use Rattle.plai_facts.specs.declared.facts.Item.{Item}
 use Rattle.plai_facts.specs.declared.facts.Item.TheVariants as item
 
@@ -51,13 +52,20 @@ variable_in _ = None
 abbrev pub variable_of : Term → Option ℕ
 variable_of t = variable_in (out-Term t)
 
--- the module of `:-(module(M,[]))`
-abbrev pub if_nil : Option (List ℕ) → Option (List ℕ) → Option (List ℕ)
-if_nil (Some a) m = cond (pointwise nat_eq a (codes "[]")) m None
-if_nil None m = None
+-- the atom `[]`
+abbrev pub is_nil_in : Term-F Term → Bool
+is_nil_in (Term-F.Atom a) = pointwise nat_eq a (codes "[]")
+is_nil_in _ = false
+
+abbrev pub is_nil : Term → Bool
+is_nil t = is_nil_in (out-Term t)
+
+-- the module of `module(M,[])`, and of `:-(module(M,[]))`
+abbrev pub module_in : Term → Option (List ℕ)
+module_in d = option_and_then (λ p. cond (is_nil p.1) (atom_of p.0) None) (two_arguments (codes "module") d)
 
 abbrev pub module_of : Term → Option (List ℕ)
-module_of t = option_and_then (λ d. option_and_then (λ p. if_nil (atom_of p.1) (atom_of p.0)) (two_arguments (codes "module") d)) (one_argument (codes ":-") t)
+module_of t = option_and_then module_in (one_argument (codes ":-") t)
 
 -- the arguments are the variables numbered from n on; variables being numbered by first appearance, they are
 -- different variables
@@ -67,29 +75,37 @@ is_the_variable n (Some v) = nat_eq v n
 
 abbrev pub are_open : ℕ → List Term → Bool
 are_open n [] = true
-are_open n (t ∷ ts) = is_the_variable n (variable_of t) && are_open (suc n) ts
+are_open n (t ∷ ts) = is_the_variable n (variable_of t) && are_open (n + 1) ts
 
--- the name and the number of arguments of an entry's goal: an atom or a compound of different variables, that a
--- program may define
-abbrev pub goal_in : Term-F Term → Option (List ℕ × ℕ)
-goal_in (Term-F.Atom a) = cond (is_definable a 0) (Some (a, 0)) None
-goal_in (Term-F.Compound name args) = cond (is_definable name (length args) && are_open 0 args) (Some (name, length args)) None
+-- an entry's goal: an atom or a compound of different variables, that a program may define
+abbrev pub goal : List ℕ → ℕ → Goal
+goal name arity = record { name = name; arity = arity }
+
+abbrev pub goal_in : Term-F Term → Option Goal
+goal_in (Term-F.Atom a) = cond (is_definable a 0) (Some (goal a 0)) None
+goal_in (Term-F.Compound name args) = cond (is_definable name (length args) && are_open 0 args) (Some (goal name (length args))) None
 goal_in _ = None
 
-abbrev pub goal_of : Term → Option (List ℕ × ℕ)
+abbrev pub goal_of : Term → Option Goal
 goal_of t = goal_in (out-Term t)
 
 -- the goal and the variable of `:(G,ground(V))`
-abbrev pub ground_of : Term → Option (Term × ℕ)
-ground_of t = option_and_then (λ p. option_map (λ v. (p.0, v)) (option_and_then variable_of (one_argument (codes "ground") p.1))) (two_arguments (codes ":") t)
+abbrev pub ground_in : Term × Term → Option (Term × ℕ)
+ground_in p = option_map (λ v. (p.0, v)) (option_and_then variable_of (one_argument (codes "ground") p.1))
 
-abbrev pub entry : List ℕ → List Prop → List ℕ × ℕ → Entry
-entry m pre key = record { «module» = m; pred = record { «module» = m; name = key.0; arity = key.1 }; pre = pre }
+abbrev pub ground_of : Term → Option (Term × ℕ)
+ground_of t = option_and_then ground_in (two_arguments (codes ":") t)
+
+abbrev pub entry : List ℕ → List Prop → Goal → Entry
+entry m pre goal = record { «module» = m; pred = record { «module» = m; name = goal.name; arity = goal.arity }; pre = pre }
 
 -- the entry of `entry(G)` or `entry(:(G,ground(V)))`, V a variable of G
+abbrev pub grounded : List ℕ → ℕ → Goal → Option Entry
+grounded m v goal = cond (nat_lt v goal.arity) (Some (entry m (Ground (v + 1) ∷ []) goal)) None
+
 abbrev pub entry_from : List ℕ → Term → Option (Term × ℕ) → Option Entry
 entry_from m t None = option_map (entry m []) (goal_of t)
-entry_from m t (Some p) = option_and_then (λ key. cond (nat_lt p.1 key.1) (Some (entry m (Ground (p.1 + 1) ∷ []) key)) None) (goal_of p.0)
+entry_from m t (Some p) = option_and_then (grounded m p.1) (goal_of p.0)
 
 abbrev pub entry_of : List ℕ → Term → Option Entry
 entry_of m t = entry_from m t (ground_of t)

@@ -10,6 +10,13 @@ pub struct Facts {
     pub clauses: Listed<Clause>,
 }
 
+/// The goal of an entry, by its name and its number of arguments.
+#[derive(Debug, Drop)]
+pub struct Goal {
+    pub name: Name,
+    pub arity: u32,
+}
+
 /// What a term behind the first one adds.
 #[derive(Debug, Drop)]
 pub enum Item {

@@ -6,6 +6,8 @@ mod facts;
 mod fail;
 mod frame;
 mod lexeme;
+mod program;
+mod shape;
 mod token;
 mod tokens;
 
