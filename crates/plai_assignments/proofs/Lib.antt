@@ -11,3 +11,4 @@ pub mod Rank
 pub mod Refine
 pub mod Sound
 pub mod Soundness
+pub mod Lawful

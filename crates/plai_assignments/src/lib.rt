@@ -8,6 +8,7 @@ ghost use Rattle.plai_terms.specs.declared.term.Term.{Term};
 ghost use Rattle.plai_terms.specs.Subst.{apply_of};
 ghost use Rattle.plai_domain.specs.declared.action.Action.{Action};
 ghost use Rattle.plai_domain.specs.Plain.{StateView, UpTo};
+ghost use Rattle.plai_domain.specs.Laws.{IsLawful};
 ghost use Rattle.plai_domain.specs.Instances.{all_below, has_property, has_properties, speaks_within, instance_of, acts_within, allows_at};
 ghost use Rattle.plai_assignments.specs.Groundness.{groundness};
 
@@ -62,4 +63,9 @@ pub fn groundness_is_sound()
         → acts_within (length args) action → allows_at (map (instance_of ts) args) r action
         → (next : StateView) × ((groundness.refine s args action).value ≡ Some next) × groundness.describes_instance next (map (apply_of r) hs) (map (apply_of r) ts) }
     ensures exit { (s : StateView) (hs ts head : List Term) → groundness.describes_instance s hs ts → groundness.describes (groundness.exit s head) hs }
+{}
+
+/// Groundness meets all laws that a fixpoint over an abstract domain needs.
+pub fn groundness_is_lawful()
+    ensures { IsLawful groundness }
 {}

@@ -1,5 +1,6 @@
 -- The meaning of an abstract domain: plain functions over patterns (Muthukumar and Hermenegildo 1992).
-use Rattle.std.specs.Prelude.{ℕ, List, [], Option, None, Some, Bool}
+use Rattle.std.specs.Prelude.{ℕ, List, [], Option, Bool}
+pub use Rattle.plai_theory.specs.Words.{UpTo}
 use Rattle.plai_terms.specs.declared.term.Term.{Term}
 use Rattle.plai_terms.specs.declared.prop.Prop.{Prop}
 use Rattle.plai_terms.specs.declared.abs.Abs.{Abs}
@@ -42,9 +43,3 @@ pub record PlainDomain : Type 1 where
 -- what an operation gives that forms no sets
 abbrev pub forms_none : {A : Type 0} → A → Formed A
 forms_none value = record { sizes = []; value = value }
-
--- an order with none below all
-abbrev pub UpTo : {A : Type 0} → (A → A → Type 0) → Option A → Option A → Type 0
-UpTo R None y = Unit {0}
-UpTo R (Some x) None = ⊥
-UpTo R (Some x) (Some y) = R x y
