@@ -1,0 +1,4 @@
+pub mod Names
+pub mod Lawful
+pub mod Facts
+pub mod One

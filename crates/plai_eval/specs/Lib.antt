@@ -1,0 +1,4 @@
+pub mod Meaning
+pub mod Evaluation
+pub mod LeastTable
+pub mod Facts
