@@ -1,3 +1,4 @@
+mod Arities
 mod Deciding
 mod Ending
 mod Outcomes

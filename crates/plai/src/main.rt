@@ -5,6 +5,7 @@ ghost use Rattle.std.specs.Prelude.{◌≡◌, ◌<◌, ◌⊎◌, None, IfOk, m
 ghost use Rattle.plai.specs.Ending.{IsStatus};
 ghost use Rattle.plai.specs.Words.{named_file, texts};
 
+mod answers;
 mod form;
 mod input;
 mod stop;
