@@ -7,3 +7,5 @@ pub mod Shape
 pub mod Groups
 pub mod Pattern
 pub mod RowOrder
+pub mod Substitution
+pub mod Unification
