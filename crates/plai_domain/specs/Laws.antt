@@ -1,5 +1,5 @@
 -- The laws of an abstract domain on plain values. The fixpoint needs them: order, monotone operations, a rank.
-use Rattle.std.specs.Prelude.{◌≡◌, ◌≢◌, ℕ, ◌<◌, ◌≤◌, All, List, length, Option}
+use Rattle.std.specs.Prelude.{◌≡◌, ◌≢◌, ℕ, ◌<◌, ◌≤◌, All, List, length}
 use Rattle.plai_terms.specs.declared.term.Term.{Term}
 use Rattle.plai_terms.specs.declared.prop.Prop.{Prop}
 use Rattle.plai_terms.specs.declared.abs.Abs.{Abs}
