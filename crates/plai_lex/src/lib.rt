@@ -1,0 +1,8 @@
+//! Tokens of a profile of ISO Prolog (ISO/IEC 13211-1:1995, 6.4).
+#![tactic(auto)]
+
+mod fail;
+mod token;
+
+pub use fail::{LexCause, LexFail};
+pub use token::{Token, TokenKind};
