@@ -1,7 +1,10 @@
 //! Tokens of a profile of ISO Prolog (ISO/IEC 13211-1:1995, 6.4).
 #![tactic(auto)]
 
+mod digits;
 mod fail;
+mod piece;
+mod quoted;
 mod token;
 
 pub use fail::{LexCause, LexFail};
