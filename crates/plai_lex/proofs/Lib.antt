@@ -1,1 +1,4 @@
+mod Comments
+mod DigitRuns
 mod Examples
+mod QuotedItems

@@ -1,5 +1,7 @@
 pub mod Bytes
+pub mod Classes
 pub mod Numbers
 pub mod Quoted
+pub mod Lengths
 pub mod Pieces
 pub mod Tokens

@@ -12,7 +12,7 @@ use Rattle.plai_lex.specs.declared.piece.Piece.{Piece}
 use Rattle.plai_lex.specs.declared.piece.Piece.TheVariants.{Nothing, Gap, Found, Failed}
 use Rattle.plai_lex.specs.Bytes.{is_small_letter, is_capital, is_alphanumeric, is_symbol, is_layout, is_printable}
 use Rattle.plai_lex.specs.Numbers.{digits_at, is_digit_of}
-use Rattle.plai_lex.specs.Quoted.{character, escape_at, quoted_within}
+use Rattle.plai_lex.specs.Quoted.{character, escape_at, quoted_from}
 
 -- how many bytes stand up to and with the next "*/"
 abbrev pub close_len : List ℕ → Option ℕ
@@ -54,18 +54,18 @@ integer_at text =
     (cond (is_based (codes "0b") 2 text) (number 2 (digits_at 2 (drop 2 text)))
     (number 0 (digits_at 10 text)))))
 
--- a quoted token of this kind, whose items are done
-abbrev pub quoted : (List ℕ → TokenKind) → Body → Piece
-quoted kind (Closed codes len) = Found (kind codes) len
-quoted kind (Broken cause at) = Failed cause at
+-- what stands between single quotes is a name, what stands between double ones a text
+abbrev pub quoted : ℕ → Body → Piece
+quoted quote (Closed codes len) = Found (cond (nat_eq quote 39) (Quoted codes) (Text codes)) len
+quoted quote (Broken cause at) = Failed cause at
 
 -- the quoted token whose opening quote stands before the text
-abbrev pub quoted_at : (List ℕ → TokenKind) → ℕ → List ℕ → Piece
-quoted_at kind quote text = quoted kind (quoted_within (length text) quote 1 text)
+abbrev pub quoted_at : ℕ → List ℕ → Piece
+quoted_at quote text = quoted quote (quoted_from quote 1 text)
 
 -- a byte and all bytes of a class behind it
 abbrev pub longest : (List ℕ → TokenKind) → (ℕ → Bool) → ℕ → List ℕ → Piece
-longest kind class b bs = Found (kind (b ∷ take_while class bs)) (suc (prefix_len class bs))
+longest kind class b bs = Found (kind (b ∷ take_while class bs)) (1 + prefix_len class bs)
 
 -- layout, a comment or the end of the text
 abbrev pub ends : List ℕ → Bool
@@ -92,15 +92,14 @@ token_at b bs =
     (cond (is_capital b) (longest Var is_alphanumeric b bs)
     (cond (is_digit_of 10 b) (integer_at (b ∷ bs))
     (cond (is_symbol b) (symbols_at b bs)
-    (cond (nat_eq b 39) (quoted_at Quoted 39 bs)
-    (cond (nat_eq b 34) (quoted_at Text 34 bs)
-    (single_at b))))))
+    (cond (nat_eq b 39 || nat_eq b 34) (quoted_at b bs)
+    (single_at b)))))
 
 -- what stands at the beginning of a text
 abbrev pub piece_at : List ℕ → Piece
 piece_at [] = Nothing
 piece_at (b ∷ bs) =
     cond (is_layout b) (Gap 1)
-    (cond (nat_eq b 37) (Gap (suc (prefix_len (λ c. not (nat_eq c 10)) bs)))
+    (cond (nat_eq b 37) (Gap (1 + prefix_len (λ c. not (nat_eq c 10)) bs))
     (cond (starts_with nat_eq (b ∷ bs) (codes "/*")) (comment (close_len (drop 1 bs)))
     (token_at b bs)))

@@ -1,5 +1,5 @@
 -- Quoted tokens, their items and escapes (ISO/IEC 13211-1:1995, 6.4.2.1).
-use Rattle.std.specs.Prelude.{ℕ, zero, suc, ◌+◌, Bool, cond, ◌&&◌, ◌||◌, nat_le, nat_lt, nat_eq, codes, Option, None, Some, option_map, List, [], ◌∷◌, drop}
+use Rattle.std.specs.Prelude.{ℕ, zero, suc, ◌+◌, Bool, cond, ◌&&◌, ◌||◌, nat_le, nat_lt, nat_eq, codes, Option, None, Some, option_map, List, [], ◌∷◌, length, drop}
 use Rattle.std.specs.List.{list_any, starts_with}
 use Rattle.plai_lex.specs.declared.digits.Digits.{Digits}
 use Rattle.plai_lex.specs.declared.quoted.Character.{Character}
@@ -71,3 +71,7 @@ abbrev pub quoted_within : ℕ → ℕ → ℕ → List ℕ → Body
 quoted_within zero quote at text = Broken OpenQuote 0
 quoted_within (suc bound) quote at text =
     with_item (item_at quote text) at (λ len. quoted_within bound quote (at + len) (drop len text))
+
+-- the quoted token of what is left of it at a place behind its opening quote
+abbrev pub quoted_from : ℕ → ℕ → List ℕ → Body
+quoted_from quote at text = quoted_within (length text) quote at text

@@ -1,8 +1,11 @@
 //! Tokens of a profile of ISO Prolog (ISO/IEC 13211-1:1995, 6.4).
 #![tactic(auto)]
 
+mod class;
 mod digits;
 mod fail;
+mod gap;
+mod integer;
 mod piece;
 mod quoted;
 mod token;
