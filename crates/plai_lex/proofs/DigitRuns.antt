@@ -1,6 +1,5 @@
 -- Reading digits from the left.
-use Rattle.std.proofs.Common.{◌≡◌, ℕ, zero, suc, ◌+◌, ◌*◌, ◌^◌, ◌<◌, ◌≤◌, Bool, true, false, List, [], ◌∷◌, length, drop, get_or, refl, sym, subst, arith, drop-cons, add-one}
-use Rattle.std.specs.List.{prefix_len}
+use Rattle.std.proofs.Common.{◌≡◌, ℕ, suc, ◌+◌, ◌*◌, ◌^◌, ◌<◌, ◌≤◌, true, false, List, ◌∷◌, length, drop, get_or, refl, arith, drop-cons, add-one}
 use Rattle.std.specs.Char.{digit_value}
 use Rattle.std.proofs.Math.Numerals.{one-add}
 use Rattle.std.proofs.Math.Nat.{pow-succ', one-le-pow, mul-le-mul_left}
@@ -34,7 +33,7 @@ one-more : (base value count digit : ℕ) (rest old all : Digits) → old.len �
     → Reads base value count old all → Reads base (value * base + digit) (suc count) rest all
 one-more base value count digit rest old all len number reads =
     let e : value * (base * base ^ rest.len) + (digit * base ^ rest.len + rest.value) ≡ all.value =
-        rw (← number, ← pow-succ' base rest.len, ← len) reads.number in
+    rw (← number, ← pow-succ' base rest.len, ← len) reads.number in
     record { number = omega (arith, e); digits = omega (arith, len, reads.digits) }
 
 pub starts : (base : ℕ) (all : Digits) → Reads base 0 0 all all
@@ -49,7 +48,7 @@ goes_on base value i b digit more text all inside at small d m reads =
     let split : drop i text ≡ b ∷ drop (suc i) text = rw at (drop-cons text i 0 inside) in
     let old : Reads base value i (digits_at base (b ∷ drop (suc i) text)) all = rw split at reads in
     rw (add-one i, m, d) (one-more base value i (digit_value b) (digits_at base (drop (suc i) text)) (digits_at base (b ∷ drop (suc i) text)) all
-        (first-len base b _ is) (first-value base b _ is) old)
+    (first-len base b _ is) (first-value base b _ is) old)
 
 -- what is read is no more than the whole number
 read-le : (base value count : ℕ) (rest all : Digits) → 2 ≤ base → Reads base value count rest all → value ≤ all.value
@@ -63,5 +62,5 @@ pub goes_over : (base value i b digit limit : ℕ) (text : List ℕ) (all : Digi
     → Reads base value i (digits_at base (drop i text)) all → limit < all.value
 goes_over base value i b digit limit text all large inside at small d over reads =
     let all-le : value * base + digit ≤ all.value = read-le base _ (i + 1) (digits_at base (drop (i + 1) text)) all large
-        (goes_on base value i b digit (value * base + digit) text all inside at small d refl reads) in
+    (goes_on base value i b digit (value * base + digit) text all inside at small d refl reads) in
     omega (arith, over, all-le)

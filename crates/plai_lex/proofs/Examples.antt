@@ -1,16 +1,17 @@
 -- The definitions on literals.
-use Rattle.std.proofs.Common.{◌≡◌, refl, codes, [], ◌∷◌, true, false, pos}
-use Rattle.std.specs.Prelude.{None, Some}
-use Rattle.plai_lex.specs.declared.token.TokenKind.TheVariants.{Name, Quoted, Var, Int, Text, Open, Close, OpenList, CloseList, Comma, Bar, End}
-use Rattle.plai_lex.specs.declared.fail.LexCause.TheVariants.{BadCharacter, OpenQuote, OpenComment, BadEscape, NumberTooLarge}
-use Rattle.plai_lex.specs.Tokens.{tokens_of, Tokens, failing}
+use Rattle.std.proofs.Common.{◌≡◌, refl, codes, [], ◌∷◌, true, false}
+use Rattle.std.specs.Prelude.{None}
+use Rattle.plai_lex.specs.declared.token.TokenKind.TheVariants.{Name, Quoted, Var, Open, Close, Comma, End}
+use Rattle.plai_lex.specs.declared.fail.LexCause.TheVariants.{OpenQuote, OpenComment, BadEscape, NumberTooLarge}
+use Rattle.plai_lex.specs.Tokens.{tokens_of, failing}
 
 fact : tokens_of (codes "p(X, 'a') . ") ≡ record {
   tokens = record { kind = Name (codes "p"); at = 0; tight = false } ∷ record { kind = Open; at = 1; tight = true }
-    ∷ record { kind = Var (codes "X"); at = 2; tight = true } ∷ record { kind = Comma; at = 3; tight = true }
-    ∷ record { kind = Quoted (codes "a"); at = 5; tight = false } ∷ record { kind = Close; at = 8; tight = true }
-    ∷ record { kind = End; at = 10; tight = false } ∷ [];
-  failure = None }
+      ∷ record { kind = Var (codes "X"); at = 2; tight = true } ∷ record { kind = Comma; at = 3; tight = true }
+      ∷ record { kind = Quoted (codes "a"); at = 5; tight = false } ∷ record { kind = Close; at = 8; tight = true }
+      ∷ record { kind = End; at = 10; tight = false } ∷ [];
+  failure = None;
+}
 fact = refl
 
 open_comment : tokens_of (codes "/*/") ≡ failing OpenComment 0

@@ -2,3 +2,4 @@ mod Comments
 mod DigitRuns
 mod Examples
 mod QuotedItems
+mod TokenPieces

@@ -51,14 +51,14 @@ within-same (suc n) zero quote at [] p q = refl
 within-same (suc n) zero quote at (b ∷ bs) p q = absurd (omega arith)
 within-same (suc n) (suc m) quote at text p q =
     with_item-same (item_at quote text) at _ _ (item-Long quote text) (λ k one. within-same n m quote (at + k) (drop k text)
-        (omega (arith, length-drop k text)) (omega (arith, length-drop k text)))
+    (omega (arith, length-drop k text)) (omega (arith, length-drop k text)))
 
 -- one item and those behind it
 quoted_from-item : (quote at : ℕ) (text : List ℕ) → quoted_from quote at text ≡ with_item (item_at quote text) at (λ k. quoted_from quote (at + k) (drop k text))
 quoted_from-item quote at [] = refl
 quoted_from-item quote at (b ∷ bs) =
     with_item-same (item_at quote (b ∷ bs)) at _ _ (item-Long quote (b ∷ bs)) (λ k one. within-same (length bs) (length (drop k (b ∷ bs))) quote (at + k) (drop k (b ∷ bs))
-        (omega (arith, length-drop k (b ∷ bs))) (omega arith))
+    (omega (arith, length-drop k (b ∷ bs))) (omega arith))
 
 -- a token with codes before its own
 abbrev pub prepended : List ℕ → Body → Body

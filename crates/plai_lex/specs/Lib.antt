@@ -5,3 +5,4 @@ pub mod Quoted
 pub mod Lengths
 pub mod Pieces
 pub mod Tokens
+pub mod Nexts

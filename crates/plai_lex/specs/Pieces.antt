@@ -1,5 +1,5 @@
 -- What stands at a place of a text: layout, a comment, a token or a failure (ISO/IEC 13211-1:1995, 6.4).
-use Rattle.std.specs.Prelude.{ℕ, suc, ◌+◌, ◌^◌, Bool, true, cond, ◌&&◌, ◌||◌, not, nat_lt, nat_eq, codes, pos, Option, None, Some, option_map, List, [], ◌∷◌, length, drop, take_while}
+use Rattle.std.specs.Prelude.{ℕ, suc, ◌+◌, ◌^◌, Bool, true, cond, ◌&&◌, ◌||◌, not, nat_lt, nat_eq, codes, pos, Option, None, Some, option_map, List, [], ◌∷◌, drop, take_while}
 use Rattle.std.specs.List.{prefix_len, starts_with}
 use Rattle.plai_lex.specs.declared.token.TokenKind.{TokenKind}
 use Rattle.plai_lex.specs.declared.token.TokenKind.TheVariants.{Name, Quoted, Var, Int, Text, Open, Close, OpenList, CloseList, Comma, Bar, End}

@@ -1,7 +1,9 @@
 -- The tokens of a text (ISO/IEC 13211-1:1995, 6.4): at each place the longest one, layout and comments between them skipped.
-use Rattle.std.specs.Prelude.{ℕ, zero, suc, ◌+◌, Bool, true, false, Option, None, Some, List, [], ◌∷◌, length, drop}
+use Rattle.std.specs.Prelude.{◌≡◌, ℕ, zero, suc, ◌+◌, Bool, true, false, Option, None, Some, Result, Ok, Err, List, [], ◌∷◌, length, drop}
 use Rattle.plai_lex.specs.declared.token.Token.{Token}
 use Rattle.plai_lex.specs.declared.fail.LexCause.{LexCause}
+use Rattle.plai_lex.specs.declared.fail.LexFail.{LexFail}
+use Rattle.plai_lex.specs.declared.fail.LexFail.TheVariants.{Memory, At}
 use Rattle.plai_lex.specs.declared.piece.Piece.{Piece}
 use Rattle.plai_lex.specs.declared.piece.Piece.TheVariants.{Nothing, Gap, Found, Failed}
 use Rattle.plai_lex.specs.Pieces.{piece_at}
@@ -46,3 +48,10 @@ tokens_from at tight text = tokens_within (length text) at tight text
 -- the tokens of a text
 abbrev pub tokens_of : List ℕ → Tokens
 tokens_of text = tokens_from 0 false text
+
+-- what a call for the next token answers to the tokens that are left, and which it leaves
+abbrev pub Answers : Tokens → Tokens → Result (Option Token) LexFail → Type 0
+Answers old new (Ok (Some token)) = old ≡ with_token token new
+Answers old new (Ok None) = (old ≡ ended) × (new ≡ old)
+Answers old new (Err Memory) = new ≡ old
+Answers old new (Err (At cause at)) = (old ≡ failing cause at) × (new ≡ old)

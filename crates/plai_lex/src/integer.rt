@@ -70,9 +70,7 @@ fn number(before: usize, base: u32, text: &[u8]) -> Piece
     ensures within { FitsPiece (before + length text.now) result }
 {
     match digits_at(text, base, GREATEST) {
-        Some(digits) => {
-            Piece::Found(TokenKind::Int(digits.value as i128), before + digits.len)
-        }
+        Some(digits) => { Piece::Found(TokenKind::Int(digits.value as i128), before + digits.len) }
         None => Piece::Failed(LexCause::NumberTooLarge, 0),
     }
 }

@@ -6,9 +6,11 @@ mod digits;
 mod fail;
 mod gap;
 mod integer;
+mod lexer;
 mod piece;
 mod quoted;
 mod token;
 
 pub use fail::{LexCause, LexFail};
+pub use lexer::Lexer;
 pub use token::{Token, TokenKind};

@@ -30,12 +30,7 @@ pub enum Piece {
 }
 
 /// The first byte with all bytes of the class behind it, and how many these are.
-fn longest(
-    alloc: Global,
-    class: Class,
-    first: u8,
-    rest: &[u8],
-) -> Result<(Name, usize), AllocError>
+fn longest(alloc: Global, class: Class, first: u8, rest: &[u8]) -> Result<(Name, usize), AllocError>
     ensures bytes { IfOk result (λ run. run.0 ≡ first ∷ take_while (in_class class) rest.now) }
     ensures len { IfOk result (λ run. run.1 ≡ 1 + prefix_len (in_class class) rest.now) }
     ensures within { IfOk result (λ run. run.1 ≤ 1 + length rest.now) }
