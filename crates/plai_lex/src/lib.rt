@@ -14,3 +14,6 @@ mod token;
 pub use fail::{LexCause, LexFail};
 pub use lexer::Lexer;
 pub use token::{Token, TokenKind};
+
+#[cfg(test)]
+mod tests;
