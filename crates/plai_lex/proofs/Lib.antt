@@ -2,4 +2,5 @@ mod Comments
 mod DigitRuns
 mod Examples
 mod QuotedItems
+mod TokenLists
 mod TokenPieces

@@ -1,11 +1,11 @@
 -- Tokens piece by piece.
-use Rattle.std.proofs.Common.{◌≡◌, ℕ, zero, suc, ◌+◌, ◌≤◌, ◌^◌, Bool, true, false, cond, not, ◌&&◌, ◌||◌, nat_eq, nat_lt, codes, pos, Option, None, Some, List, [], ◌∷◌, length, drop, refl, ap, arith, length-drop, ◌∙◌, sym}
+use Rattle.std.proofs.Common.{◌≡◌, ℕ, zero, suc, ◌+◌, ◌≤◌, ◌^◌, Bool, true, false, cond, not, ◌&&◌, ◌||◌, nat_eq, nat_lt, codes, pos, Option, None, Some, List, [], ◌∷◌, length, drop, refl, ap, arith, length-drop, ◌∙◌, sym, subst, take_while}
 use Rattle.std.specs.List.{starts_with, prefix_len}
 use Rattle.std.proofs.lemmas.List.{drop-drop}
 use Rattle.plai_lex.specs.declared.token.TokenKind.{TokenKind}
-use Rattle.plai_lex.specs.declared.token.TokenKind.TheVariants.{Name, Var, Int, Open, Close, OpenList, CloseList, Comma, Bar, End}
+use Rattle.plai_lex.specs.declared.token.TokenKind.TheVariants.{Name, Quoted, Text, Var, Int, Open, Close, OpenList, CloseList, Comma, Bar, End}
 use Rattle.plai_lex.specs.declared.fail.LexCause.{LexCause}
-use Rattle.plai_lex.specs.declared.fail.LexCause.TheVariants.{NumberTooLarge, BadCharacter}
+use Rattle.plai_lex.specs.declared.fail.LexCause.TheVariants.{NumberTooLarge, BadCharacter, OpenComment, BadEscape}
 use Rattle.plai_lex.specs.declared.digits.Digits.{Digits}
 use Rattle.plai_lex.specs.declared.quoted.Character.{Character}
 use Rattle.plai_lex.specs.declared.quoted.Item.{Item}
@@ -18,7 +18,7 @@ use Rattle.plai_lex.specs.Bytes.{is_small_letter, is_capital, is_alphanumeric, i
 use Rattle.plai_lex.specs.Numbers.{digits_at, is_digit_of}
 use Rattle.plai_lex.specs.Quoted.{item_at, with_item, preceded, quoted_within}
 use Rattle.plai_lex.specs.Pieces.{is_based, ends, comment, close_len, number, coded, character_at, integer_at, quoted, longest, single_at, token_at, piece_at}
-use Rattle.plai_lex.specs.Tokens.{Tokens, with_token, with_piece, tokens_within, tokens_from}
+use Rattle.plai_lex.specs.Tokens.{Tokens, IsWritten, with_token, with_piece, tokens_within, tokens_from, tokens_of}
 
 -- layout, a comment or a token has a byte at least
 abbrev Long : Piece → Type 0
@@ -27,20 +27,28 @@ Long (Gap len) = 1 ≤ len
 Long (Found kind len) = 1 ≤ len
 Long (Failed cause at) = Unit {0}
 
+-- a token's integer is not negative
+abbrev Written : Piece → Type 0
+Written Nothing = Unit {0}
+Written (Gap len) = Unit {0}
+Written (Found kind len) = IsWritten kind
+Written (Failed cause at) = Unit {0}
+
 record IsLong (piece : Piece) : Type 0 where
   long : Long piece
+  written : Written piece
 
-found : (kind : TokenKind) (len : ℕ) → 1 ≤ len → IsLong (Found kind len)
-found kind len h = record { long = h }
+found : (kind : TokenKind) (len : ℕ) → IsWritten kind → 1 ≤ len → IsLong (Found kind len)
+found kind len w h = record { long = h; written = w }
 
 gap : (len : ℕ) → 1 ≤ len → IsLong (Gap len)
-gap len h = record { long = h }
+gap len h = record { long = h; written = tt }
 
-one : (kind : TokenKind) → IsLong (Found kind 1)
-one kind = found kind 1 (omega arith)
+one : (kind : TokenKind) → IsWritten kind → IsLong (Found kind 1)
+one kind w = found kind 1 w (omega arith)
 
 failed : (cause : LexCause) (at : ℕ) → IsLong (Failed cause at)
-failed cause at = record { long = tt }
+failed cause at = record { long = tt; written = tt }
 
 either : (b : Bool) {x y : Piece} → IsLong x → IsLong y → IsLong (cond b x y)
 either true p q = p
@@ -51,15 +59,15 @@ under true p q = p refl
 under false p q = q
 
 comment-IsLong : (o : Option ℕ) → IsLong (comment o)
-comment-IsLong None = record { long = tt }
-comment-IsLong (Some len) = record { long = omega arith }
+comment-IsLong None = failed OpenComment 0
+comment-IsLong (Some len) = gap (2 + len) (omega arith)
 
 number-IsLong : (before : ℕ) (ds : Digits) → 1 ≤ before + ds.len → IsLong (number before ds)
-number-IsLong before ds h = either (nat_lt ds.value (2 ^ 127)) (found (Int (pos ds.value)) _ h) (failed NumberTooLarge 0)
+number-IsLong before ds h = either (nat_lt ds.value (2 ^ 127)) (found (Int (pos ds.value)) _ tt h) (failed NumberTooLarge 0)
 
 coded-IsLong : (o : Option Character) → IsLong (coded o)
-coded-IsLong None = record { long = tt }
-coded-IsLong (Some c) = record { long = omega arith }
+coded-IsLong None = failed BadEscape 0
+coded-IsLong (Some c) = found (Int (pos c.code)) _ tt (omega arith)
 
 integer-IsLong : (b : ℕ) (bs : List ℕ) → is_digit_of 10 b ≡ true → IsLong (integer_at (b ∷ bs))
 integer-IsLong b bs digit =
@@ -89,27 +97,31 @@ quoted_within-LongBody zero quote at text = tt
 quoted_within-LongBody (suc bound) quote at text =
     with_item-LongBody (item_at quote text) at _ (λ k. quoted_within-LongBody bound quote (at + k) (drop k text))
 
-quoted-IsLong : (quote : ℕ) (body : Body) → LongBody body → IsLong (quoted quote body)
-quoted-IsLong quote (Closed codes len) h = record { long = h }
-quoted-IsLong quote (Broken cause at) h = record { long = tt }
+named : (b : Bool) (codes : List ℕ) → IsWritten (cond b (Quoted codes) (Text codes))
+named true codes = tt
+named false codes = tt
 
-longest-IsLong : (kind : List ℕ → TokenKind) (class : ℕ → Bool) (b : ℕ) (bs : List ℕ) → IsLong (longest kind class b bs)
-longest-IsLong kind class b bs = found _ _ (omega arith)
+quoted-IsLong : (quote : ℕ) (body : Body) → LongBody body → IsLong (quoted quote body)
+quoted-IsLong quote (Closed codes len) h = found _ len (named (nat_eq quote 39) codes) h
+quoted-IsLong quote (Broken cause at) h = failed cause at
+
+longest-IsLong : (kind : List ℕ → TokenKind) (class : ℕ → Bool) (b : ℕ) (bs : List ℕ) → ((codes : List ℕ) → IsWritten (kind codes)) → IsLong (longest kind class b bs)
+longest-IsLong kind class b bs w = found (kind (b ∷ take_while class bs)) _ (w _) (omega arith)
 
 single-IsLong : (b : ℕ) → IsLong (single_at b)
 single-IsLong b =
-    either (nat_eq b 40) (one Open) (either (nat_eq b 41) (one Close) (either (nat_eq b 91) (one OpenList) (either (nat_eq b 93) (one CloseList)
-    (either (nat_eq b 44) (one Comma) (either (nat_eq b 124) (one Bar) (either (nat_eq b 33 || nat_eq b 59) (one (Name (b ∷ []))) (failed BadCharacter 0)))))))
+    either (nat_eq b 40) (one Open tt) (either (nat_eq b 41) (one Close tt) (either (nat_eq b 91) (one OpenList tt) (either (nat_eq b 93) (one CloseList tt)
+    (either (nat_eq b 44) (one Comma tt) (either (nat_eq b 124) (one Bar tt) (either (nat_eq b 33 || nat_eq b 59) (one (Name (b ∷ [])) tt) (failed BadCharacter 0)))))))
 
 token-IsLong : (b : ℕ) (bs : List ℕ) → IsLong (token_at b bs)
 token-IsLong b bs =
-    either (is_small_letter b) (longest-IsLong Name is_alphanumeric b bs) (either (is_capital b) (longest-IsLong Var is_alphanumeric b bs)
+    either (is_small_letter b) (longest-IsLong Name is_alphanumeric b bs (λ c. tt)) (either (is_capital b) (longest-IsLong Var is_alphanumeric b bs (λ c. tt))
     (under (is_digit_of 10 b) (integer-IsLong b bs)
-    (either (is_symbol b) (either (nat_eq b 46 && nat_eq (prefix_len is_symbol bs) 0 && ends bs) (one End) (longest-IsLong Name is_symbol b bs))
+    (either (is_symbol b) (either (nat_eq b 46 && nat_eq (prefix_len is_symbol bs) 0 && ends bs) (one End tt) (longest-IsLong Name is_symbol b bs (λ c. tt)))
     (either (nat_eq b 39 || nat_eq b 34) (quoted-IsLong b _ (quoted_within-LongBody (length bs) b 1 bs)) (single-IsLong b)))))
 
 piece-IsLong : (text : List ℕ) → IsLong (piece_at text)
-piece-IsLong [] = record { long = tt }
+piece-IsLong [] = record { long = tt; written = tt }
 piece-IsLong (b ∷ bs) =
     either (is_layout b) (gap 1 (omega arith)) (either (nat_eq b 37) (gap (1 + prefix_len (λ c. not (nat_eq c 10)) bs) (omega arith))
     (either (starts_with nat_eq (b ∷ bs) (codes "/*")) (comment-IsLong (close_len (drop 1 bs))) (token-IsLong b bs)))
@@ -164,3 +176,24 @@ pub gives : (at len : ℕ) (tight : Bool) (kind : TokenKind) (text : List ℕ) (
     → tokens_from at tight (drop at text) ≡ whole
     → whole ≡ with_token (record { kind = kind; at = at; tight = tight }) (tokens_from (at + len) true (drop (at + len) text))
 gives at len tight kind text piece whole is found-is same = rw (piece_is at tight text piece is, found-is) at (sym same)
+
+-- the integer of a token that is given is not negative
+pub writes : (at len : ℕ) (kind : TokenKind) (text : List ℕ) (piece : Piece) → piece ≡ piece_at (drop at text) → piece ≡ Found kind len → IsWritten kind
+writes at len kind text piece is found-is =
+    let P : Piece → Type 0 = λ p. Written p in subst P (sym is ∙ found-is) (piece-IsLong (drop at text)).written
+
+-- no more tokens than pieces
+with_piece-few : (piece : Piece) (at bound : ℕ) (tight : Bool) (f : ℕ → Bool → Tokens) → ((k : ℕ) (b : Bool) → length (f k b).tokens ≤ bound)
+    → length (with_piece piece at tight f).tokens ≤ suc bound
+with_piece-few Nothing at bound tight f each = omega arith
+with_piece-few (Gap len) at bound tight f each = omega (arith, each len false)
+with_piece-few (Found kind len) at bound tight f each = omega (arith, each len true)
+with_piece-few (Failed cause place) at bound tight f each = omega arith
+
+within-few : (n at : ℕ) (tight : Bool) (text : List ℕ) → length (tokens_within n at tight text).tokens ≤ n
+within-few zero at tight text = omega arith
+within-few (suc n) at tight text = with_piece-few (piece_at text) at n tight _ (λ k b. within-few n (at + k) b (drop k text))
+
+-- no more tokens than bytes
+pub few : (text : List ℕ) → length (tokens_of text).tokens ≤ length text
+few text = within-few (length text) 0 false text

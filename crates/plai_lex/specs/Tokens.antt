@@ -1,5 +1,8 @@
 -- The tokens of a text (ISO/IEC 13211-1:1995, 6.4): at each place the longest one, layout and comments between them skipped.
-use Rattle.std.specs.Prelude.{◌≡◌, ℕ, zero, suc, ◌+◌, Bool, true, false, Option, None, Some, Result, Ok, Err, List, [], ◌∷◌, length, drop}
+use Rattle.std.specs.Prelude.{◌≡◌, ℕ, zero, suc, ◌+◌, Bool, true, false, Option, None, Some, Result, Ok, Err, List, [], ◌∷◌, ◌++◌, length, drop}
+use Rattle.std.specs.Int.{IsNonNegative}
+use Rattle.plai_lex.specs.declared.token.TokenKind.{TokenKind}
+use Rattle.plai_lex.specs.declared.token.TokenKind.TheVariants.{Int}
 use Rattle.plai_lex.specs.declared.token.Token.{Token}
 use Rattle.plai_lex.specs.declared.fail.LexCause.{LexCause}
 use Rattle.plai_lex.specs.declared.fail.LexFail.{LexFail}
@@ -49,9 +52,23 @@ tokens_from at tight text = tokens_within (length text) at tight text
 abbrev pub tokens_of : List ℕ → Tokens
 tokens_of text = tokens_from 0 false text
 
+-- an integer that is written as a token is not negative
+abbrev pub IsWritten : TokenKind → Type 0
+IsWritten (Int n) = IsNonNegative n
+IsWritten _ = Unit {0}
+
+-- several tokens before the others
+abbrev pub with_tokens : List Token → Tokens → Tokens
+with_tokens tokens rest = record { tokens = tokens ++ rest.tokens; failure = rest.failure }
+
 -- what a call for the next token answers to the tokens that are left, and which it leaves
 abbrev pub Answers : Tokens → Tokens → Result (Option Token) LexFail → Type 0
 Answers old new (Ok (Some token)) = old ≡ with_token token new
 Answers old new (Ok None) = (old ≡ ended) × (new ≡ old)
 Answers old new (Err Memory) = new ≡ old
 Answers old new (Err (At cause at)) = (old ≡ failing cause at) × (new ≡ old)
+
+-- calls one after the other give these tokens, and leave the last ones
+abbrev pub Gives : Tokens → List Token → Tokens → Type 0
+Gives old [] new = new ≡ old
+Gives old (token ∷ tokens) new = (rest : Tokens) × (old ≡ with_token token rest) × Gives rest tokens new

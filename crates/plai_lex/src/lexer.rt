@@ -1,7 +1,8 @@
 //! The lexer.
-ghost use Rattle.std.specs.Prelude.{◌≡◌, ◌≤◌, length, drop};
-ghost use Rattle.plai_lex.specs.Tokens.{Tokens, tokens_from, tokens_of, Answers};
+ghost use Rattle.std.specs.Prelude.{◌≡◌, ◌≤◌, length, drop, List, IfOk, IfSome};
+ghost use Rattle.plai_lex.specs.Tokens.{Tokens, tokens_from, tokens_of, with_tokens, Answers, Gives, IsWritten};
 ghost use Rattle.plai_lex.specs.Nexts.{IsNext};
+ghost use Rattle.plai_lex.specs.declared.token.Token.{Token};
 
 use crate::fail::LexFail;
 use crate::piece::{Piece, piece_at};
@@ -24,7 +25,8 @@ fn next_token(
     tight: bool,
 ) -> Result<Option<Next>, LexFail>
     requires { start ≤ length text.now }
-    ensures { IsNext text.now (tokens_from start tight (drop start text.now)) result }
+    ensures next { IsNext text.now (tokens_from start tight (drop start text.now)) result }
+    ensures written { IfOk result (λ found. IfSome found (λ next. IsWritten next.token.kind)) }
 {
     let mut at = start;
     let mut tight = tight;
@@ -75,7 +77,8 @@ impl<'a> Model for Lexer<'a> {
 impl<'a> Lexer<'a> {
     /// A lexer at the beginning of the text.
     pub fn new(text: &'a [u8]) -> Lexer<'a>
-        ensures { result ≡ tokens_of text.now }
+        ensures tokens { result ≡ tokens_of text.now }
+        ensures few { length result.tokens ≤ length text.now }
     {
         Lexer {
             text,
@@ -87,7 +90,8 @@ impl<'a> Lexer<'a> {
     /// The next token, or none exactly at the end of the text. A failure is the first of the text from here on.
     /// After a failure the lexer is unchanged.
     pub fn next(&mut self, alloc: Global) -> Result<Option<Token>, LexFail>
-        ensures { Answers self.old self.new result }
+        ensures answer { Answers self.old self.new result }
+        ensures written { IfOk result (λ found. IfSome found (λ token. IsWritten token.kind)) }
     {
         match next_token(alloc, self.text, self.at, self.tight)? {
             Some(next) => {
@@ -99,3 +103,8 @@ impl<'a> Lexer<'a> {
         }
     }
 }
+
+/// The tokens that calls of `next` gave one after the other, and behind them those that are left, are all tokens.
+pub fn tokens_given_and_left()
+    ensures { (all : Tokens) (given : List Token) (left : Tokens) → Gives all given left → all ≡ with_tokens given left }
+{}

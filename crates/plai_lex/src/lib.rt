@@ -12,7 +12,7 @@ mod quoted;
 mod token;
 
 pub use fail::{LexCause, LexFail};
-pub use lexer::Lexer;
+pub use lexer::{Lexer, tokens_given_and_left};
 pub use token::{Token, TokenKind};
 
 #[cfg(test)]
