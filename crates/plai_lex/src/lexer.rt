@@ -58,7 +58,8 @@ fn next_token(
     }
 }
 
-/// Gives the tokens of a text one after the other. Contracts see it as the tokens that are left.
+/// Gives the tokens of a text one after the other (ISO/IEC 13211-1:1995, 6.4). Contracts see it as the tokens that
+/// are left and the first failure behind them.
 #[derive(Drop)]
 pub struct Lexer<'a> {
     text: &'a [u8],
