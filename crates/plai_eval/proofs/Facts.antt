@@ -19,7 +19,8 @@ use Rattle.plai_terms.specs.Rows.{AreInOrder}
 use Rattle.plai_domain.specs.Plain.{PlainDomain}
 use Rattle.plai_clauses.specs.declared.clause.Clause.{Clause}
 use Rattle.plai_clauses.specs.declared.entry.Entry as entries
-use Rattle.plai_clauses.specs.Program.{ProgramView, clauses_of, entries_of}
+use Rattle.plai_clauses.specs.Program.{ProgramView, clauses_of, entries_of, same_pred, pred_of, one_module}
+use Rattle.plai_clauses.proofs.OneModule.{clauses_of-one_module, of_filter}
 use Rattle.plai_eval.specs.Meaning.{row_name, as_domain, entry_name, as_program}
 use Rattle.plai_eval.specs.LeastTable.{row_of, before, IsLeastTable}
 use Rattle.plai_eval.specs.Facts.{AreFacts, fact_answer, join_of, facts_answer, AreFactRows}
@@ -104,3 +105,8 @@ module _ (p : PlainDomain) where
       -- Theorem: the rows of the entries with the joins of their facts are the least table.
       pub facts_least : IsLeastTable p g rows
       facts_least = (1, snapshot)
+
+-- Theorem: a module whose clauses have no bodies is a program of facts.
+pub module_facts : (m : List ℕ) (cs : List Clause) (es : List entries.Entry) → ((c : Clause) → IsIn c cs → c.body ≡ []) → AreFacts (one_module m cs es)
+module_facts m cs es h k c i =
+    h c (of_filter (λ b. same_pred (pred_of m b) k) cs c (subst (λ (xs : List Clause). IsIn c xs) (clauses_of-one_module m cs es k) i)).0

@@ -1,10 +1,13 @@
-ghost use Rattle.std.specs.Prelude.{◌≡◌, List};
+ghost use Rattle.std.specs.Prelude.{◌≡◌, ℕ, List, []};
+ghost use Rattle.plai_theory.specs.Words.{IsIn};
 ghost use Rattle.plai_theory.specs.Domain as theory;
 ghost use Rattle.plai_theory.specs.LeastTable.{IsStrictOrder};
 ghost use Rattle.plai_theory.specs.Limits.{IsMonotone};
 ghost use Rattle.plai_terms.specs.declared.plain_row.PlainRow.{PlainRow};
 ghost use Rattle.plai_domain.specs.Laws.{IsLawful};
-ghost use Rattle.plai_clauses.specs.Program.{ProgramView};
+ghost use Rattle.plai_clauses.specs.declared.clause.Clause.{Clause};
+ghost use Rattle.plai_clauses.specs.declared.entry.Entry.{Entry};
+ghost use Rattle.plai_clauses.specs.Program.{ProgramView, one_module};
 ghost use Rattle.plai_clauses.specs.WellFormed.{IsWellFormed};
 ghost use Rattle.plai_eval.specs.Meaning.{as_domain, as_limits, as_program};
 ghost use Rattle.plai_eval.specs.LeastTable.{before, IsLeastTable};
@@ -21,6 +24,12 @@ pub fn least_table_is_one<T: AnyPlainDomain>()
 /// the least table. No law of the domain is needed.
 pub fn facts_give_the_least_table<T: AnyPlainDomain>()
     ensures { (program : ProgramView) → AreFacts program → (rows : List PlainRow) → AreFactRows T.plain program rows → IsLeastTable T.plain program rows }
+{}
+
+/// A module whose clauses have no bodies is a program of facts.
+pub fn facts_of_a_module()
+    ensures { (name : List ℕ) (clauses : List Clause) (entries : List Entry) → ((clause : Clause) → IsIn clause clauses → clause.body ≡ [])
+        → AreFacts (one_module name clauses entries) }
 {}
 
 /// At a well formed program, a lawful domain meets what the theory of stages and tables asks.
