@@ -3,3 +3,4 @@ pub mod Lawful
 pub mod Facts
 pub mod One
 pub mod Example
+pub mod Over

@@ -1,8 +1,9 @@
-ghost use Rattle.std.specs.Prelude.{◌≡◌, ℕ, List, []};
+ghost use Rattle.std.specs.Prelude.{◌≡◌, ◌↔◌, ℕ, IsSome, List, []};
 ghost use Rattle.plai_theory.specs.Words.{IsIn};
 ghost use Rattle.plai_theory.specs.Domain as theory;
 ghost use Rattle.plai_theory.specs.LeastTable.{IsStrictOrder};
-ghost use Rattle.plai_theory.specs.Limits.{IsMonotone};
+ghost use Rattle.plai_theory.specs.Limits.{IsMonotone, IsOverAt};
+ghost use Rattle.plai_terms.specs.declared.abs.Abs.{Abs};
 ghost use Rattle.plai_terms.specs.declared.plain_row.PlainRow.{PlainRow};
 ghost use Rattle.plai_domain.specs.Laws.{IsLawful};
 ghost use Rattle.plai_clauses.specs.declared.clause.Clause.{Clause};
@@ -10,6 +11,7 @@ ghost use Rattle.plai_clauses.specs.declared.entry.Entry.{Entry};
 ghost use Rattle.plai_clauses.specs.Program.{ProgramView, one_module};
 ghost use Rattle.plai_clauses.specs.WellFormed.{IsWellFormed};
 ghost use Rattle.plai_eval.specs.Meaning.{as_domain, as_limits, as_program};
+ghost use Rattle.plai_eval.specs.Evaluation.{Source, as_source, evaluation};
 ghost use Rattle.plai_eval.specs.LeastTable.{before, IsLeastTable};
 ghost use Rattle.plai_eval.specs.Facts.{AreFacts, AreFactRows};
 
@@ -38,4 +40,10 @@ pub fn laws_of_theory<T: AnyPlainDomain>()
     ensures limits { IsLawful T.plain → (program : ProgramView) → IsWellFormed program
         → IsMonotone (as_domain T.plain) (as_program T.plain program) (as_limits T.plain) }
     ensures order { IsStrictOrder (as_domain T.plain) (before T.plain) }
+{}
+
+/// An evaluation has a first set of too many groups exactly where one of its operations forms such a set.
+pub fn first_sets_are_sets<T: AnyPlainDomain>()
+    ensures { (source : Source) (clause : Clause) (call : Abs) → IsSome (evaluation T.plain source clause call).over
+        ↔ IsOverAt (as_domain T.plain) (as_limits T.plain) (as_source T.plain source) clause call }
 {}
