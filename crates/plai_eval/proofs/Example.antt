@@ -5,7 +5,7 @@ use Rattle.std.proofs.lemmas.List.Elements.{All-from_recursion}
 use Rattle.plai_theory.specs.Words.{IsIn, UpTo}
 use Rattle.plai_theory.specs.Domain.{Domain, Program}
 use Rattle.plai_theory.specs.Evaluation.{NameOf, name_of, state_behind, calls_along, answer_of, calls_of, join_of, best_of}
-use Rattle.plai_theory.specs.Stages.{stage, Reaches, Entry, Called}
+use Rattle.plai_theory.specs.Stages.{stage, Reaches, AtEntry, ByCall}
 use Rattle.plai_theory.specs.LeastTable.{Row}
 use Rattle.plai_theory.specs.Tables.{source_of, HasName, IsClosed}
 use Rattle.plai_theory.proofs.Rounds.{below_at}
@@ -17,7 +17,7 @@ use Rattle.plai_terms.specs.declared.abs.Abs.TheVariants.{Nothing, Pos}
 use Rattle.plai_terms.specs.declared.pred_key.PredKey.{PredKey}
 use Rattle.plai_terms.specs.declared.plain_row.PlainRow.{PlainRow}
 use Rattle.plai_domain.specs.Plain.{StateView, PlainDomain, forms_none}
-use Rattle.plai_domain.specs.Outcomes.{IsOver}
+use Rattle.plai_domain.specs.Outcomes.{SomeTooLarge}
 use Rattle.plai_domain.specs.Laws.{IsLawful}
 use Rattle.plai_clauses.specs.Builtins.{builtins}
 use Rattle.plai_clauses.specs.declared.clause.Clause.{Clause}
@@ -55,7 +55,7 @@ silent = record {
   describes_instance = λ state head variables. Unit {0};
 }
 
-no_sets : IsOver [] → ⊥
+no_sets : SomeTooLarge [] → ⊥
 no_sets over = cc
 
 silent_lawful : IsLawful silent
@@ -207,4 +207,4 @@ least =
       λ k v is. below_at d g (lawful_at silent silent_lawful program well_formed) rows 2
           (at_rows (λ r. UpTo (d.leq r.name.pred) r.answer (stage d g 2 r.name.pred r.name.call)) (refl, refl) (refl, refl)) k v,
     )
-    (at_rows (λ r. (k : ℕ) × Reaches d g (source_of d rows) k r.name) (0, Entry (inl refl)) (1, Called (name_of d p (any 1)) rule (Entry (inl refl)) (inl refl) (inl refl)))
+    (at_rows (λ r. (k : ℕ) × Reaches d g (source_of d rows) k r.name) (0, AtEntry (inl refl)) (1, ByCall (name_of d p (any 1)) rule (AtEntry (inl refl)) (inl refl) (inl refl)))

@@ -2,7 +2,7 @@ ghost use Rattle.std.specs.Prelude.{◌≡◌, ◌↔◌, ℕ, IsSome, List, []}
 ghost use Rattle.plai_theory.specs.Words.{IsIn};
 ghost use Rattle.plai_theory.specs.Domain as theory;
 ghost use Rattle.plai_theory.specs.LeastTable.{IsStrictOrder};
-ghost use Rattle.plai_theory.specs.Limits.{IsMonotone, IsOverAt};
+ghost use Rattle.plai_theory.specs.Limits.{AreUpwardClosed, IsOverAt};
 ghost use Rattle.plai_terms.specs.declared.abs.Abs.{Abs};
 ghost use Rattle.plai_terms.specs.declared.plain_row.PlainRow.{PlainRow};
 ghost use Rattle.plai_domain.specs.Laws.{IsLawful};
@@ -38,7 +38,7 @@ pub fn facts_of_a_module()
 pub fn laws_of_theory<T: AnyPlainDomain>()
     ensures domain { IsLawful T.plain → (program : ProgramView) → IsWellFormed program → theory.IsLawful (as_domain T.plain) (as_program T.plain program) }
     ensures limits { IsLawful T.plain → (program : ProgramView) → IsWellFormed program
-        → IsMonotone (as_domain T.plain) (as_program T.plain program) (as_limits T.plain) }
+        → AreUpwardClosed (as_domain T.plain) (as_program T.plain program) (as_limits T.plain) }
     ensures order { IsStrictOrder (as_domain T.plain) (before T.plain) }
 {}
 
