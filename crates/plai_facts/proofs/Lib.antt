@@ -4,3 +4,4 @@ pub mod Sound
 pub mod Files
 pub mod Places
 pub mod Values
+pub mod FactLemmas

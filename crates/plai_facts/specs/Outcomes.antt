@@ -12,6 +12,12 @@ Gives outcome (Ok x) = outcome ≡ Some x
 Gives outcome (Err NotTaken) = outcome ≡ None
 Gives outcome (Err Memory) = Unit {0}
 
+-- the value, or no memory
+abbrev pub Makes : {A : Type 0} → A → Result A FactsFail → Type 0
+Makes value (Ok x) = value ≡ x
+Makes value (Err NotTaken) = ⊥
+Makes value (Err Memory) = Unit {0}
+
 abbrev pub reading_of : Reader → Reading
 reading_of r = record { frames = reverse r.frames.items; current = r.current; facts = r.facts }
 
