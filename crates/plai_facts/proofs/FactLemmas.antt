@@ -16,12 +16,13 @@ split w = grind (arith, nat_tests)
 
 counted-fact : (name : List ℕ) (args : List Term) (w : ℕ) → compound_fact name args (min w (2 ^ 32 - 1)) ≡ compound_fact name args w
 counted-fact name args w = elim (split w) as (λ _. compound_fact name args (min w (2 ^ 32 - 1)) ≡ compound_fact name args w) [
-    inl h ↦ let e : min w (2 ^ 32 - 1) ≡ w = omega arith in ap (compound_fact name args) e
+  | inl h ↦ let e : min w (2 ^ 32 - 1) ≡ w = omega arith in ap (compound_fact name args) e
   | inr h ↦
       let low : nat_le (length args + min w (2 ^ 32 - 1)) 64 ≡ false = grind (arith, nat_tests) in
       let high : nat_le (length args + w) 64 ≡ false = grind (arith, nat_tests) in
       refused (is_head name (length args)) (nat_le (length args + min w (2 ^ 32 - 1)) 64) (fact name args (min w (2 ^ 32 - 1))) low
-      ∙ sym (refused (is_head name (length args)) (nat_le (length args + w) 64) (fact name args w) high) ]
+      ∙ sym (refused (is_head name (length args)) (nat_le (length args + w) 64) (fact name args w) high)
+]
 
 out-Compound : (name : List ℕ) (args : List Term) → out-Term (Compound name args) ≡ Term-F.Compound name args
 out-Compound name args = search (rules, the_lemmas)

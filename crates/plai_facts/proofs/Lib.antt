@@ -5,3 +5,4 @@ pub mod Files
 pub mod Places
 pub mod Values
 pub mod FactLemmas
+pub mod Steps

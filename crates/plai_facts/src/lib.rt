@@ -7,7 +7,9 @@ mod fail;
 mod frame;
 mod lexeme;
 mod program;
+mod read;
 mod shape;
+mod step;
 mod token;
 mod tokens;
 
