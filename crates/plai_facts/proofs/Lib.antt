@@ -6,3 +6,4 @@ pub mod Places
 pub mod Values
 pub mod FactLemmas
 pub mod Steps
+pub mod Formed
