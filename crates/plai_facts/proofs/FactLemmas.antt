@@ -1,6 +1,6 @@
 -- The fact of a compound whose variables were counted up to a limit.
 use Rattle.std.proofs.Common.{◌≡◌, ℕ, ◌+◌, ◌-◌, ◌^◌, ◌≤◌, ◌<◌, ◌⊎◌, inl, inr, Bool, true, false, ◌&&◌, cond, min, List, length, refl, ap, sym, ◌∙◌, subst, arith, rules}
-use Rattle.std.specs.Prelude.{Option, Some, None, nat_le}
+use Rattle.std.specs.Prelude.{Some, None, nat_le}
 use Rattle.std.proofs.lemmas.Bool.Decides.{nat_tests}
 use Rattle.plai_terms.specs.declared.term.Term.{Term, Compound, out-Term, the_lemmas}
 use Rattle.plai_terms.specs.declared.term.Term.TheOpen.{Term-F}

@@ -12,16 +12,14 @@ use Rattle.plai_terms.specs.declared.term.Term.{Term, Var, Int, Atom, Compound, 
 use Rattle.plai_terms.specs.declared.term.Term.TheOpen.{Term-F}
 use Rattle.plai_terms.proofs.Terms.{induction}
 use Rattle.plai_domain.specs.Instances.{all_below, speaks_within}
-use Rattle.plai_domain.specs.Conditions.{IsHead}
 use Rattle.plai_clauses.specs.Builtins.{is_key, is_builtin_key, is_refused_key, is_definable}
-use Rattle.plai_clauses.specs.WellFormed.{IsWellFormedClause, IsWellFormedEntry}
 use Rattle.plai_clauses.specs.declared.clause.Clause.{Clause}
 use Rattle.plai_clauses.specs.declared.entry.Entry.{Entry}
 use Rattle.plai_facts.specs.declared.facts.Facts.{Facts}
 use Rattle.plai_facts.specs.declared.facts.Goal.{Goal}
 use Rattle.plai_facts.specs.declared.facts.Item.{Item}
 use Rattle.plai_facts.specs.declared.facts.Item.TheVariants as item
-use Rattle.plai_facts.specs.Program.{width_of, is_head, fact, compound_fact, fact_in, fact_of, goal, goal_in, goal_of, are_open, entry, grounded, entry_from, entry_of, ground_of, declared, item_from, item_of, one_argument, has_room, added, begun, with_term, module_of, facts_from}
+use Rattle.plai_facts.specs.Program.{width_of, is_head, fact, fact_in, fact_of, goal, goal_in, goal_of, are_open, entry, grounded, entry_from, entry_of, ground_of, declared, item_from, item_of, one_argument, has_room, added, begun, with_term, module_of, facts_from}
 use Rattle.plai_facts.specs.WellFormed.{IsFact, IsEntryOf, AreWellFormed}
 use Rattle.plai_facts.proofs.Words.{both, fold-max-above}
 

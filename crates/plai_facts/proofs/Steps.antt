@@ -1,6 +1,6 @@
 -- One step of reading a text.
-use Rattle.std.proofs.Common.{◌≡◌, ℕ, ◌<◌, List, [], ◌∷◌, drop, length, refl, ap, sym, ◌∙◌, arith}
-use Rattle.std.specs.Prelude.{Option, Some, None, option_map, option_and_then, Err}
+use Rattle.std.proofs.Common.{◌≡◌, ℕ, ◌<◌, List, ◌∷◌, drop, length, ap, sym, ◌∙◌}
+use Rattle.std.specs.Prelude.{Option, Some, option_map, option_and_then, Err}
 use Rattle.plai_facts.specs.declared.facts.Facts.{Facts}
 use Rattle.plai_facts.specs.declared.fail.FactsFail.{FactsFail}
 use Rattle.plai_facts.specs.declared.fail.FactsFail.TheVariants.{Memory, NotTaken}

@@ -1,6 +1,6 @@
 -- One pass over tokens: what each token does to the open compounds, the last one first, and to the term that was read
 -- last. Only contracts of private functions cite it; that it gives the form of a file is proved.
-use Rattle.std.specs.Prelude.{ℕ, Bool, cond, nat_lt, Option, Some, None, option_map, option_and_then, length, List, [], ◌∷◌, ◌++◌, drop}
+use Rattle.std.specs.Prelude.{ℕ, cond, nat_lt, Option, Some, None, option_map, option_and_then, length, List, [], ◌∷◌, ◌++◌, drop}
 use Rattle.plai_terms.specs.declared.term.Term.{Term, Var, Int, Atom, Compound}
 use Rattle.plai_facts.specs.declared.facts.Facts.{Facts}
 use Rattle.plai_facts.specs.declared.frame.Frame.{Frame}

@@ -1,6 +1,6 @@
 -- What the terms of a file say: the directive `module`, entries and facts (ISO/IEC 13211-1:1995, 6.2.1 and 7.4, for
 -- clauses and directives; the directives themselves are this project's).
-use Rattle.std.specs.Prelude.{ℕ, suc, ◌+◌, Bool, true, false, cond, not, ◌&&◌, nat_eq, nat_lt, nat_le, Option, Some, None, option_map, option_and_then, length, List, [], ◌∷◌, ◌++◌, codes, max, fold}
+use Rattle.std.specs.Prelude.{ℕ, ◌+◌, Bool, true, false, cond, not, ◌&&◌, nat_eq, nat_lt, nat_le, Option, Some, None, option_map, option_and_then, length, List, [], ◌∷◌, ◌++◌, codes, max, fold}
 use Rattle.std.specs.Cmp.Lexicographic.{pointwise}
 use Rattle.plai_terms.specs.declared.term.Term.{Term, fold-Term, out-Term}
 use Rattle.plai_terms.specs.declared.term.Term.TheOpen.{Term-F}

@@ -5,6 +5,7 @@ mod class;
 mod facts;
 mod fail;
 mod frame;
+mod laws;
 mod lexeme;
 mod program;
 mod read;
@@ -15,3 +16,5 @@ mod tokens;
 
 pub use facts::Facts;
 pub use fail::FactsFail;
+pub use laws::file_laws;
+pub use read::read_facts;

@@ -1,5 +1,8 @@
 //! Reads a text in one pass.
-ghost use Rattle.std.specs.Prelude.{◌≡◌, ◌<◌, ◌≤◌, ◌∷◌, ℕ, List, length, drop, IfOk};
+ghost use Rattle.std.specs.Prelude.{◌≡◌, ◌<◌, ◌≤◌, ◌∷◌, ℕ, List, length, drop, IfOk, IsErrOf};
+ghost use Rattle.plai_facts.specs.declared.facts.Facts.{Facts};
+ghost use Rattle.plai_facts.specs.File.{IsFile};
+ghost use Rattle.plai_facts.specs.WellFormed.{AreWellFormed};
 ghost use Rattle.plai_facts.specs.Lexemes.{rest_of};
 ghost use Rattle.plai_facts.specs.Tokens.{text_at};
 ghost use Rattle.plai_facts.specs.Machine.{lexed, place_behind, advanced, read_of};
@@ -100,4 +103,14 @@ fn read(alloc: Global, text: &[u8]) -> Result<Facts, FactsFail>
         (reader, rest) = advance(alloc, &mut names, reader, rest)?;
     }
     finish(reader)
+}
+
+/// Reads a file of facts and entries in functional notation (ISO/IEC 13211-1:1995, 6.3.3). Its facts are in the order
+/// of the file and have no body. A text that isn't of the form is `NotTaken`.
+pub fn read_facts(alloc: Global, text: &[u8]) -> Result<Facts, FactsFail>
+    ensures facts { IfOk result (λ facts. IsFile text.now facts) }
+    ensures not_taken { IsErrOf result FactsFail.NotTaken → (facts : Facts) → ¬ IsFile text.now facts }
+    ensures well_formed { IfOk result AreWellFormed }
+{
+    read(alloc, text)
 }

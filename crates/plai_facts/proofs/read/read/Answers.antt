@@ -1,6 +1,6 @@
-use Rattle.std.proofs.Common.{◌≡◌, [], ap, ◌∙◌, arith, rules}
+use Rattle.std.proofs.Common.{[], ap, ◌∙◌, arith, rules}
 use Rattle.std.proofs.lemmas.Bool.Decides.{nat_tests}
-use Rattle.plai_facts.specs.Machine.{given, start, read_of}
+use Rattle.plai_facts.specs.Machine.{given, read_of}
 use Rattle.plai_facts.specs.Outcomes.{reading_of}
 use Rattle.plai_facts.proofs.Steps.{read-on, read-stops}
 use Rattle.plai_facts.proofs.read.read.Goals as goal
