@@ -1,0 +1,15 @@
+use Rattle.std.proofs.Common.{arith}
+use Rattle.plai_bdd.proofs.Functions.{some_of, kept_source}
+use Rattle.plai_bdd.proofs.bdd.Bdd.implies.Goals as goal
+
+pub overflow_sub-roots : goal.overflow_sub-roots
+overflow_sub-roots c = let h = some_of _ _ c.self.invariant c.as_slice-left.ensures.value in omega arith
+
+pub overflow_sub-roots-2 : goal.overflow_sub-roots-2
+overflow_sub-roots-2 c = let h = some_of _ _ c.other.invariant c.as_slice-right.ensures.value in omega arith
+
+pub implies_at-requires-clause-left_is : goal.implies_at-requires-clause-left_is
+implies_at-requires-clause-left_is c = kept_source _ _ _ c.self.invariant c.self.view_is c.as_slice-left.ensures.value
+
+pub implies_at-requires-clause-right_is : goal.implies_at-requires-clause-right_is
+implies_at-requires-clause-right_is c = kept_source _ _ _ c.other.invariant c.other.view_is c.as_slice-right.ensures.value
