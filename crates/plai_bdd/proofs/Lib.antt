@@ -5,6 +5,7 @@ pub mod Depends
 pub mod Either
 pub mod Functions
 pub mod Lists
+pub mod Models
 pub mod Same
 pub mod Shown
 pub mod Slots

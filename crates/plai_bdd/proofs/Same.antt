@@ -48,6 +48,13 @@ functions_decided r x y d cx cy = (λ h at. ap (λ l. holds l at) (d.0 h), λ sa
 pub same_function : (x y : List Node) → IsCanonical x → IsCanonical y → AreSameFunction x y ↔ (x ≡ y)
 same_function x y cx cy = (λ same. same_nodes x y cx cy same, λ e at. ap (λ l. holds l at) e)
 
+-- what a walk from the roots of two lists decides
+pub roots_decide : (r : Bool) (left right self other : List Node) → left ≡ self → right ≡ other → IsTrue r ↔ Implies (root_of left) (root_of right)
+    → IsTrue r ↔ ((at : Assignment) → IsTrue (holds self at) → IsTrue (holds other at))
+roots_decide r left right self other e f d =
+    let P : List Node → Type 0 = λ l. IsTrue r ↔ Implies (root_of l) (root_of other) in
+    subst P e (subst (λ l. IsTrue r ↔ Implies (root_of left) (root_of l)) f d)
+
 pub either_at : (a b first second root : ℕ) (nodes : List Node) → a < 64 → b < 64 → first ≡ min a b → second ≡ max a b → nodes ≡ either_nodes first second → root ≡ either_root a b → IsEither nodes root a b
 either_at a b first second root nodes fits_a fits_b e f g h =
     let all : nodes ≡ either_nodes (min a b) (max a b) = g ∙ (λ x. either_nodes (e x) (f x)) in

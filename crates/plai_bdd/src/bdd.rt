@@ -1,9 +1,9 @@
-ghost use Rattle.std.specs.Prelude.{◌≡◌, ◌<◌, ◌≤◌, ◌+◌, ◌-◌, ◌&&◌, ◌||◌, ◌↔◌, ℕ, IsTrue, IfOk, length};
+ghost use Rattle.std.specs.Prelude.{◌≡◌, ◌<◌, ◌≤◌, ◌+◌, ◌-◌, ◌^◌, ◌&&◌, ◌||◌, ◌↔◌, ℕ, IsTrue, IfOk, length};
 ghost use Rattle.std.specs.Bool.{beq};
 ghost use Rattle.plai_base.specs.Mask.{has_slot};
 ghost use Rattle.plai_bdd.specs.Assignment.{Assignment, IsFree, with_slot};
 ghost use Rattle.plai_bdd.specs.Change.{IsPlaceable, combined};
-ghost use Rattle.plai_bdd.specs.Nodes.{AreSameFunction, HaveSameModels, IsCanonical, IsFunction, IsOver, holds, root_of};
+ghost use Rattle.plai_bdd.specs.Nodes.{AreSameFunction, HaveSameModels, IsCanonical, IsFunction, IsOver, holds, is_model, root_of};
 ghost use Rattle.plai_bdd.specs.Slots.{AllTrue, Somewhere, and_slot, conjunction, quantified, some_slot};
 
 use crate::change::{Change, Connective};
@@ -195,7 +195,9 @@ impl Bdd {
 
     /// Whether each assignment that makes this function true makes the other true. Nothing is allocated.
     pub fn implies(&self, other: &Bdd) -> bool
-        ensures { IsTrue result ↔ ((at : Assignment) → IsTrue (holds self.now at) → IsTrue (holds other.now at)) }
+        ensures function { IsTrue result ↔ ((at : Assignment) → IsTrue (holds self.now at) → IsTrue (holds other.now at)) }
+        ensures models { (bound : ℕ) → IsOver bound self.now → IsOver bound other.now
+            → (IsTrue result ↔ ((mask : ℕ) → mask < 2 ^ bound → IsTrue (is_model self.now mask) → IsTrue (is_model other.now mask))) }
     {
         let left = self.nodes.as_slice();
         let right = other.nodes.as_slice();
@@ -211,7 +213,9 @@ impl Bdd {
     pub fn forces(&self, a: u32, b: u32) -> bool
         requires a_fits { a < 64 }
         requires b_fits { b < 64 }
-        ensures { IsTrue result ↔ ((at : Assignment) → IsTrue (holds self.now at) → IsTrue (at a || at b)) }
+        ensures function { IsTrue result ↔ ((at : Assignment) → IsTrue (holds self.now at) → IsTrue (at a || at b)) }
+        ensures models { (bound : ℕ) → a < bound → b < bound → IsOver bound self.now
+            → (IsTrue result ↔ ((mask : ℕ) → mask < 2 ^ bound → IsTrue (is_model self.now mask) → IsTrue (has_slot mask a || has_slot mask b))) }
     {
         let left = self.nodes.as_slice();
         let right = either(a.min(b), a.max(b));
@@ -246,6 +250,8 @@ impl PartialEq for Bdd {
         ensures lists { IsTrue result ↔ (self.now ≡ other.now) }
         ensures functions { IsTrue result ↔ AreSameFunction self.now other.now }
         ensures equal_functions_have_equal_lists { AreSameFunction self.now other.now ↔ (self.now ≡ other.now) }
+        ensures models { (bound : ℕ) → IsOver bound self.now → IsOver bound other.now
+            → HaveSameModels bound self.now other.now → self.now ≡ other.now }
     {
         self.nodes.as_slice() == other.nodes.as_slice()
     }

@@ -7,6 +7,8 @@ mod change;
 mod combine;
 mod node;
 mod table;
+#[cfg(test)]
+mod tests;
 mod walk;
 
 pub use bdd::Bdd;
