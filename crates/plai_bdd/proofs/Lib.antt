@@ -1,4 +1,5 @@
 pub mod Adding
+pub mod Branches
 pub mod Builds
 pub mod Canonical
 pub mod Depends

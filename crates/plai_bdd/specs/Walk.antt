@@ -1,5 +1,5 @@
 -- Which trees imply which, and what a walk over two lists keeps of the pairs of places that it has shown.
-use Rattle.std.specs.Prelude.{◌≡◌, ℕ, ◌+◌, ◌*◌, ◌/◌, ◌%◌, ◌<◌, Bool, true, false, cond, nat_eq, ◌&&◌, bit_or, IsTrue, List, [], ◌∷◌, get_or}
+use Rattle.std.specs.Prelude.{◌≡◌, ℕ, ◌/◌, ◌%◌, Bool, true, false, cond, nat_eq, ◌&&◌, bit_or, IsTrue, List, [], ◌∷◌, get_or}
 use Rattle.plai_base.specs.Mask.{has_slot, mask_of}
 use Rattle.plai_bdd.specs.declared.node.Node.{Node}
 use Rattle.plai_bdd.specs.declared.node.Node.TheVariants.{Leaf, Branch}

@@ -7,7 +7,7 @@ ghost use Rattle.plai_bdd.specs.Nodes.{AreSameFunction, HaveSameModels, IsCanoni
 ghost use Rattle.plai_bdd.specs.Slots.{AllTrue, Somewhere, and_slot, conjunction, quantified, some_slot};
 
 use crate::change::{Change, Connective};
-use crate::combine::{Pair, combine};
+use crate::combine::{Pair, combine, has_branch};
 use crate::node::Node;
 use crate::walk::{either, implies_at, root_of_either};
 use indexmap::{IndexMap, IndexSet};
@@ -170,7 +170,7 @@ impl Bdd {
         requires canonical { IsCanonical self }
         ensures { IfOk result (λ b. IsFunction b (some_slot slots slot (holds self))) }
     {
-        if slots.contains(slot) {
+        if slots.contains(slot) && has_branch(self.nodes.as_slice(), slot) {
             let low = self.restrict(alloc, slot, false)?;
             let high = self.restrict(alloc, slot, true)?;
             low.or(alloc, &high)

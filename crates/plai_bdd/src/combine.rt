@@ -1,4 +1,5 @@
-ghost use Rattle.std.specs.Prelude.{◌≡◌, ◌<◌, ◌≤◌, Bool, IfOk, OnOk, Some, length, get_or, min};
+ghost use Rattle.std.specs.Prelude.{◌≡◌, ◌<◌, ◌≤◌, Bool, IfOk, OnOk, Some, length, get_or, min, nat_eq};
+ghost use Rattle.std.specs.List.{list_any};
 ghost use Rattle.indexmap.specs.IndexMap.{get, Updates};
 ghost use Rattle.indexmap.specs.IndexSet.{keys};
 ghost use Rattle.plai_bdd.specs.Table.{Adds, IsMemo, IsSource, IsTable, children_of, function_of, joined_place, joined_table, least_of, no_node, same_pair, slot_of as slot_of_node, leaf_answer as leaf_answer_of};
@@ -64,6 +65,13 @@ pub fn slot_of(node: Node) -> u32
         Node::Leaf(_) => 64,
         Node::Branch { slot, .. } => slot,
     }
+}
+
+/// Whether some node is a branch on the slot, which is below 64.
+pub fn has_branch(nodes: &[Node], slot: u32) -> bool
+    ensures { result ≡ list_any (λ node. nat_eq (slot_of_node node) slot) nodes.now }
+{
+    nodes.iter().any(|node| slot_of(*node) == slot)
 }
 
 /// The lesser slot of two nodes.
