@@ -1,4 +1,11 @@
 pub mod formers
 pub mod Term
 pub mod Subst
+pub mod Atom
 pub mod Print
+pub mod Shape
+pub mod Groups
+pub mod Pattern
+pub mod RowOrder
+pub mod Substitution
+pub mod Unification

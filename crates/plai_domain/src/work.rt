@@ -1,0 +1,52 @@
+ghost use Rattle.std.specs.Prelude.{◌≡◌, List, None, OnOk, OnErr};
+ghost use Rattle.std.specs.declared.option.Option.{Option};
+ghost use Rattle.plai_domain.specs.declared.work.WorkEntry.{WorkEntry};
+ghost use Rattle.plai_domain.specs.Noted.{noted};
+
+use plai_terms::{Abs, RowName};
+use std::alloc::{AllocError, Global};
+
+/// A step of the work of an edit (Hermenegildo, Puebla, Marriott and Stuckey 2000). Clauses are numbered from 1.
+#[derive(Debug, Drop)]
+pub enum WorkEntry {
+    /// The work of the edit of this number begins.
+    Mark(u64),
+    /// A row is made.
+    Made(RowName),
+    /// A dormant row is live again.
+    Woke(RowName),
+    /// A clause of a row is evaluated.
+    Evaluated(RowName, u64),
+    /// The answer of a row grows to this pattern.
+    Grew(RowName, Abs),
+}
+
+/// Who is told of the work.
+pub trait Work {
+    /// The entries noted, where the object tells them.
+    ghost entries: { Self → Option (List WorkEntry) };
+
+    /// Notes an entry, or leaves what was noted as before for want of memory.
+    fn note(&mut self, alloc: Global, entry: &WorkEntry) -> Result<(), AllocError>
+        ensures ok { OnOk result (entries self.new ≡ noted entry.now (entries self.old)) }
+        ensures err { OnErr result (entries self.new ≡ entries self.old) };
+}
+
+/// Keeps nothing, and tells nothing. Its notes take no memory.
+#[derive(Clone, Copy, Debug)]
+pub struct Tally {}
+
+impl Tally {
+    /// One that keeps nothing.
+    pub fn new() -> Tally {
+        Tally {}
+    }
+}
+
+impl Work for Tally {
+    ghost entries = { λ _. None };
+
+    fn note(&mut self, _alloc: Global, _entry: &WorkEntry) -> Result<(), AllocError> {
+        Ok(())
+    }
+}
