@@ -153,8 +153,9 @@ fn implied_within<const LINES: usize>(
     implied(left, right, pair, blocks, &mut lines)
 }
 
-/// Whether the function at the first place implies that at the second. Nothing is allocated. No pair of places is walked twice
-/// where the right list has at most 8,192 nodes for each 64 of the left.
+/// Whether the function at the first place implies that at the second. Nothing is allocated. No pair of places is walked twice where
+/// there are at most 8,192 lines, which is one for each node of the right list and each 64 nodes of the left. The fewer lines there
+/// are, the fewer are kept, since each call writes them all once.
 pub fn implies_at(left: &[Node], right: &[Node], pair: Pair) -> bool
     requires left_is { IsSource Keep left.now pair.left }
     requires right_is { IsSource Keep right.now pair.right }
@@ -163,6 +164,8 @@ pub fn implies_at(left: &[Node], right: &[Node], pair: Pair) -> bool
     let blocks = left.len() / 64 + 1;
     if right.len() <= 64 / blocks {
         implied_within::<64>(left, right, pair, blocks)
+    } else if right.len() <= 1024 / blocks {
+        implied_within::<1024>(left, right, pair, blocks)
     } else {
         implied_within::<8192>(left, right, pair, blocks)
     }
