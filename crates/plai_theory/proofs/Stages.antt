@@ -37,7 +37,7 @@ module _ (d : Domain) (g : Program d) (laws : IsLawful d g) (p : d.Pred) where
   joined_least (Some a) (Some b) None h k = absurd h
   joined_least (Some a) (Some b) (Some c) h k = laws.join_least h k
 
-  -- the best of clauses is their least upper bound
+  -- the join of the answers of clauses is their least upper bound
   pub best_least : (s : Source d) (cs : List d.Clause) (v : d.Value) (top : Option d.Value) → ((c : d.Clause) → IsIn c cs → UpTo (d.leq p) (answer_of d s c v) top) → UpTo (d.leq p) (best_of d s cs v) top
   unfolding best_of
   best_least s [] v top h = tt
