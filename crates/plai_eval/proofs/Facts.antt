@@ -6,7 +6,7 @@ use Rattle.plai_theory.specs.Words.{IsIn, given}
 use Rattle.plai_theory.specs.Domain.{Name}
 use Rattle.plai_theory.specs.Evaluation.{Source, NameOf, state_behind, calls_along, answer_of, calls_of, best_of}
 use Rattle.plai_theory.specs.Evaluation as theory
-use Rattle.plai_theory.specs.Stages.{stage, Reaches, Entry, Called}
+use Rattle.plai_theory.specs.Stages.{stage, Reaches, AtEntry, ByCall}
 use Rattle.plai_theory.specs.LeastTable.{Row, IsOrdered, IsSnapshot}
 use Rattle.plai_theory.proofs.Rounds.{map_in}
 use Rattle.plai_theory.proofs.Snapshots.{in_map}
@@ -19,7 +19,8 @@ use Rattle.plai_terms.specs.Rows.{AreInOrder}
 use Rattle.plai_domain.specs.Plain.{PlainDomain}
 use Rattle.plai_clauses.specs.declared.clause.Clause.{Clause}
 use Rattle.plai_clauses.specs.declared.entry.Entry as entries
-use Rattle.plai_clauses.specs.Program.{ProgramView, clauses_of, entries_of}
+use Rattle.plai_clauses.specs.Program.{ProgramView, clauses_of, entries_of, same_pred, pred_of, one_module}
+use Rattle.plai_clauses.proofs.OneModule.{clauses_of-one_module, of_filter}
 use Rattle.plai_eval.specs.Meaning.{row_name, as_domain, entry_name, as_program}
 use Rattle.plai_eval.specs.LeastTable.{row_of, before, IsLeastTable}
 use Rattle.plai_eval.specs.Facts.{AreFacts, fact_answer, join_of, facts_answer, AreFactRows}
@@ -68,8 +69,8 @@ module _ (p : PlainDomain) where
 
     -- the entries alone are reached
     reached : {s : Source (as_domain p)} {n : ℕ} {x : NameOf (as_domain p)} → Reaches (as_domain p) (as_program p g) s n x → IsIn x (as_program p g).entries
-    reached (Entry i) = i
-    reached {s} (Called {x = x} m c r i j) = absurd (subst (λ (ns : List (NameOf (as_domain p))). IsIn x ns) (calls_are s c m.call (facts m.pred c i)) j)
+    reached (AtEntry i) = i
+    reached {s} (ByCall {x = x} m c r i j) = absurd (subst (λ (ns : List (NameOf (as_domain p))). IsIn x ns) (calls_are s c m.call (facts m.pred c i)) j)
 
     module _ (rows : List PlainRow) (are : AreFactRows p g rows) where
       in_order : (rs : List PlainRow) → AreInOrder rs → IsOrdered (as_domain p) (before p) (map (row_of p) rs)
@@ -90,7 +91,7 @@ module _ (p : PlainDomain) where
                 (row_of p) rows r i
                 (λ q j.
                 let (e, k, is) = are.sound q j in (
-                  Entry (subst (λ (x : NameOf (as_domain p)). IsIn x (as_program p g).entries) (sym (same_pair q.name (entry_name p e) is))
+                  AtEntry (subst (λ (x : NameOf (as_domain p)). IsIn x (as_program p g).entries) (sym (same_pair q.name (entry_name p e) is))
                       (in_map (λ (e : entries.Entry). record { pred = e.pred; call = p.describe e.pred.arity e.pre }) (entries_of g) e k)),
                   are.answers q j ∙ sym (stage_is n q.name.pred q.name.call),
                 ));
@@ -104,3 +105,8 @@ module _ (p : PlainDomain) where
       -- Theorem: the rows of the entries with the joins of their facts are the least table.
       pub facts_least : IsLeastTable p g rows
       facts_least = (1, snapshot)
+
+-- Theorem: a module whose clauses have no bodies is a program of facts.
+pub module_facts : (m : List ℕ) (cs : List Clause) (es : List entries.Entry) → ((c : Clause) → IsIn c cs → c.body ≡ []) → AreFacts (one_module m cs es)
+module_facts m cs es h k c i =
+    h c (of_filter (λ b. same_pred (pred_of m b) k) cs c (subst (λ (xs : List Clause). IsIn c xs) (clauses_of-one_module m cs es k) i)).0

@@ -127,7 +127,7 @@ module _ (p : PlainDomain) (laws : IsLawful p) (g : ProgramView) (good : IsWellF
       }
 
   -- Theorem: so do those of formed sets.
-  pub limits_at : limits.IsMonotone (as_domain p) (as_program p g) (as_limits p)
+  pub limits_at : limits.AreUpwardClosed (as_domain p) (as_program p g) (as_limits p)
   limits_at =
       record {
         enter = λ k c v w i h. laws.forms_more.enter (length c.head) c.variables c.head v w (good.clauses k c i).head (at_head k c v w i h);

@@ -2,3 +2,5 @@ pub mod Names
 pub mod Lawful
 pub mod Facts
 pub mod One
+pub mod Example
+pub mod Over

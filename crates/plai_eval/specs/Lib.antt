@@ -2,3 +2,4 @@ pub mod Meaning
 pub mod Evaluation
 pub mod LeastTable
 pub mod Facts
+pub mod Stops

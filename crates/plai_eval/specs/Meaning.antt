@@ -10,7 +10,7 @@ use Rattle.plai_terms.specs.declared.row_name.RowName.{RowName}
 use Rattle.plai_terms.specs.contracts.row_name.RowNamePartialEq.TheImpl as row_name_eq
 use Rattle.plai_domain.specs.declared.action.Action.{Action}
 use Rattle.plai_domain.specs.Plain.{StateView, PlainDomain}
-use Rattle.plai_domain.specs.Outcomes.{IsOver}
+use Rattle.plai_domain.specs.Outcomes.{SomeTooLarge}
 use Rattle.plai_clauses.specs.declared.clause.Clause.{Clause}
 use Rattle.plai_clauses.specs.declared.clause.Literal.{Literal}
 use Rattle.plai_clauses.specs.declared.clause.Target.{Target}
@@ -74,10 +74,10 @@ as_domain p =
 abbrev pub as_limits : (p : PlainDomain) → Limits (as_domain p)
 as_limits p =
     record {
-      enter = λ clause call. IsOver (p.enter call clause.head clause.variables).sizes;
-      call = λ literal state. IsOver (p.call state literal.args).sizes;
-      back = λ literal state answer. IsOver (p.back state literal.args answer).sizes;
-      refine = λ acting state. IsOver (p.refine state acting.args acting.action).sizes;
+      enter = λ clause call. SomeTooLarge (p.enter call clause.head clause.variables).sizes;
+      call = λ literal state. SomeTooLarge (p.call state literal.args).sizes;
+      back = λ literal state answer. SomeTooLarge (p.back state literal.args answer).sizes;
+      refine = λ acting state. SomeTooLarge (p.refine state acting.args acting.action).sizes;
     }
 
 -- the row that an entry asks for: its predicate, and the pattern of its properties

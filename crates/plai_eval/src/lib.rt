@@ -6,4 +6,7 @@ mod any_domain;
 mod laws;
 
 pub use any_domain::AnyPlainDomain;
-pub use laws::{facts_give_the_least_table, laws_of_theory, least_table_is_one};
+pub use laws::{
+    facts_give_the_least_table, facts_of_a_module, first_sets_are_sets, laws_of_theory,
+    least_table_is_one,
+};

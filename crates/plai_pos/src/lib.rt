@@ -8,6 +8,8 @@ mod literal;
 mod properties;
 mod refine;
 mod sets;
+#[cfg(test)]
+mod tests;
 mod truth;
 mod value;
 

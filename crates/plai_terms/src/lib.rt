@@ -41,3 +41,6 @@ pub use row_name::RowName;
 pub use skeleton::Skeleton;
 pub use subst::Subst;
 pub use term::{Args, Term};
+
+#[cfg(test)]
+mod tests;
