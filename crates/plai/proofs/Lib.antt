@@ -3,3 +3,4 @@ mod Deciding
 mod Ending
 mod Outcomes
 mod Reading
+pub mod RowLemmas

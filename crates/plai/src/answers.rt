@@ -6,7 +6,7 @@ ghost use Rattle.plai_clauses.specs.Program.{same_pred, pred_of};
 ghost use Rattle.plai_domain.specs.Conditions.{IsHead};
 ghost use Rattle.plai_eval.specs.Facts.{fact_answer, facts_answer, join_of};
 ghost use Rattle.plai_pos.specs.Values.{value_of};
-ghost use Rattle.plai.specs.FactRows.{IsFact, belonging};
+ghost use Rattle.plai.specs.FactRows.{HasClauseHead, belonging};
 
 use plai_clauses::Clause;
 use plai_facts::Facts;
@@ -22,7 +22,7 @@ fn fact_answer(
     call: &Value,
 ) -> Result<Option<Value>, AllocError>
     requires arity { arity_of (value_of call.now) ≡ length fact.now.head }
-    requires fact { IsFact fact.now }
+    requires fact { HasClauseHead fact.now }
     ensures { IfOk result (λ answer. option_map value_of answer ≡ fact_answer groundness fact.now (value_of call.now)) }
 {
     let head = fact.head.as_slice();
@@ -53,7 +53,9 @@ fn joined(
 fn belongs(module_name: &Name, fact: &Clause, pred: &PredKey) -> bool
     ensures { result ≡ same_pred (pred_of module_name.now fact.now) pred.now }
 {
-    *module_name == pred.module && fact.name == pred.name && fact.head.as_slice().len() == pred.arity as usize
+    *module_name == pred.module
+        && fact.name == pred.name
+        && fact.head.as_slice().len() == pred.arity as usize
 }
 
 /// What the facts of a module answer at a call of a predicate, all joined, or none where the predicate has no fact.
@@ -66,7 +68,7 @@ pub fn answer(
     call: &Value,
 ) -> Result<Option<Value>, AllocError>
     requires arity { arity_of (value_of call.now) ≡ pred.now.arity }
-    requires facts { All IsFact facts.now }
+    requires facts { All HasClauseHead facts.now }
     ensures { IfOk result (λ answer. option_map value_of answer ≡
         facts_answer groundness (belonging module_name.now pred.now facts.now) (value_of call.now)) }
 {

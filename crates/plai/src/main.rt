@@ -6,12 +6,14 @@ ghost use Rattle.plai.specs.Ending.{IsStatus};
 ghost use Rattle.plai.specs.Words.{named_file, texts};
 
 mod answers;
-mod form;
 mod input;
+mod rows;
 mod stop;
+mod table;
 #[cfg(test)]
 mod tests;
 mod top;
+mod words;
 
 use crate::stop::Stop;
 use crate::top::run;
