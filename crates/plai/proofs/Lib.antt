@@ -1,6 +1,5 @@
 mod Arities
 mod Deciding
-mod Ending
 mod Outcomes
 mod Reading
 pub mod RowLemmas
