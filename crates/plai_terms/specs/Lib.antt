@@ -1,3 +1,4 @@
+pub mod Atom
 pub mod formers
 pub mod Term
 pub mod Subst

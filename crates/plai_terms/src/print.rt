@@ -3,11 +3,15 @@ ghost use Rattle.std.specs.Fmt.{signed_decimal};
 ghost use Rattle.std.specs.List.{join_with_byte};
 ghost use Rattle.plai_terms.specs.Print.{text_of};
 
+use crate::atom::write_atom;
 use crate::term::Term;
 use itoa::Buffer;
 use std::alloc::{AllocError, Global};
 
-/// Appends the text of the term.
+/// Appends the text of a term: functional notation without spaces, a variable as `_` and its number,
+/// integers in decimal, and atoms in quotes where they need them (ISO/IEC 13211-1:1995, 7.10.5).
+///
+/// After want of memory `out` is as before.
 pub fn print_term(alloc: Global, term: &Term, out: &mut Vec<u8>) -> Result<(), AllocError>
     ensures ok { OnOk result (out.new.items ≡ out.old.items ++ text_of term.now) }
     ensures err { OnErr result (out.new.items ≡ out.old.items) }
@@ -24,9 +28,9 @@ fn write_term(term: &Term, out: &mut Vec<u8>) -> Result<(), AllocError>
     match term {
         Term::Var(number) => write_variable(*number, out),
         Term::Int(value) => write_integer(*value, out),
-        Term::Atom(name) => out.extend_from_slice(name.as_slice()),
+        Term::Atom(name) => write_atom(name.as_slice(), out),
         Term::Compound(name, args) => {
-            out.extend_from_slice(name.as_slice())?;
+            write_atom(name.as_slice(), out)?;
             out.push(b'(')?;
             write_all(args.as_slice(), out)?;
             out.push(b')')?;
