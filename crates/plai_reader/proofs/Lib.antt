@@ -1,0 +1,5 @@
+pub mod Spine
+pub mod Climbs
+pub mod Weakest
+pub mod Trees
+pub mod Readings
