@@ -3,3 +3,5 @@ pub mod Climbs
 pub mod Weakest
 pub mod Trees
 pub mod Readings
+pub mod Keeping
+pub mod Numbering

@@ -5,3 +5,4 @@ pub mod Variables
 pub mod Roles
 pub mod Reading
 pub mod Climb
+pub mod Limits

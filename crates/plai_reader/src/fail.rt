@@ -36,3 +36,20 @@ impl<T: Drop> From<AllocFailed<T>> for OpFail {
         OpFail::Memory
     }
 }
+
+/// Why tokens give no term.
+#[derive(Debug, PartialEq, Eq, Drop, Error)]
+pub enum ReadTermFail {
+    /// Memory is wanting.
+    #[error("out of memory")]
+    Memory,
+    /// The tokens have no tree.
+    #[error("the tokens are no term")]
+    Syntax,
+    /// The term is deeper than 2,000, where an atom, an integer or a variable is 1 deep.
+    #[error("the term is deeper than 2,000")]
+    TooDeep,
+    /// The term is no deeper than that, and a compound in it has more than 255 arguments.
+    #[error("a compound has more than 255 arguments")]
+    ArityTooLarge,
+}

@@ -8,5 +8,5 @@ mod state;
 mod stop;
 mod tree;
 
-pub use fail::OpFail;
+pub use fail::{OpFail, ReadTermFail};
 pub use operator::OpKind;

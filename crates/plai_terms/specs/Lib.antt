@@ -3,3 +3,4 @@ pub mod formers
 pub mod Term
 pub mod Subst
 pub mod Print
+pub mod Readable
