@@ -5,3 +5,5 @@ pub mod Trees
 pub mod Readings
 pub mod Keeping
 pub mod Numbering
+pub mod Decisions
+pub mod Maps
