@@ -4,6 +4,7 @@ pub mod Weakest
 pub mod Trees
 pub mod Readings
 pub mod Keeping
-pub mod Numbering
+pub mod Numbers
 pub mod Decisions
 pub mod Maps
+pub mod FiniteMaps

@@ -13,7 +13,8 @@ use Rattle.plai_reader.specs.declared.state.Action.TheVariants as action
 use Rattle.plai_reader.specs.Level.{Builder, Link, tree_of}
 use Rattle.plai_reader.specs.Climb.{popped, climbed, climbing}
 use Rattle.plai_reader.specs.Operators.{Table}
-use Rattle.plai_reader.specs.Variables.{Variables, number_at, after_token}
+use Rattle.plai_reader.specs.declared.variables.Variables.{Variables}
+use Rattle.plai_reader.specs.Variables.{number_at, after_token}
 use Rattle.plai_reader.specs.Roles.{is_end, decided}
 use Rattle.plai_reader.specs.Reading.{Layer, State, first_place, links_of, whole, wanting, within, limit_of, closed, leaf_tree, placed, put, back, pushed, begun, item, performed, behind, ended, last, run, start, read_of}
 use Rattle.plai_reader.proofs.Spine.{Place}

@@ -4,12 +4,12 @@ use Rattle.std.specs.Ordering.{nat_cmp}
 use Rattle.std.specs.Cmp.Lexicographic.{pointwise, slice_cmp}
 use Rattle.std.specs.FinMap.{FinMap}
 use Rattle.std.specs.FinMap as finite
-use Rattle.std.specs.Coded.{Coded, code_by, coded×, coded_list, coded_ℕ}
 use Rattle.plai_reader.specs.declared.operator.OpKind.{OpKind}
 use Rattle.plai_reader.specs.declared.operator.OpKind.TheVariants.{Xfx, Xfy, Yfx, Fx, Fy}
 use Rattle.plai_reader.specs.declared.operator.Class.{Class}
 use Rattle.plai_reader.specs.declared.operator.Class.TheVariants.{Prefix, Infix, Postfix}
 use Rattle.plai_reader.specs.declared.operator.Definition.{Definition}
+use Rattle.plai_reader.specs.declared.table.OpTable.{OpTable}
 use Rattle.plai_reader.specs.declared.fail.OpFail.{OpFail}
 use Rattle.plai_reader.specs.declared.fail.OpFail.TheVariants.{BadPriority, BadName, InfixAndPostfix}
 use Rattle.plai_reader.specs.Kinds.{class_of}
@@ -18,28 +18,26 @@ use Rattle.plai_reader.specs.Kinds.{class_of}
 abbrev pub Names : Type 0
 Names = FinMap (slice_cmp nat_cmp) Definition
 
--- the operators of each class
-pub record Table : Type 0 where
-  pub prefix : Names
-  pub infix_ : Names
-  pub postfix : Names
+-- a table: the operators of each class
+abbrev pub Table : Type 0
+Table = OpTable
 
 abbrev pub no_operators : Table
-no_operators = record { prefix = finite.empty; infix_ = finite.empty; postfix = finite.empty }
+no_operators = record { prefixes = finite.empty; infixes = finite.empty; postfixes = finite.empty }
 
 abbrev pub of_class : Table → Class → Names
-of_class t Prefix = t.prefix
-of_class t Infix = t.infix_
-of_class t Postfix = t.postfix
+of_class t Prefix = t.prefixes
+of_class t Infix = t.infixes
+of_class t Postfix = t.postfixes
 
 -- the operator of a class with that name
 abbrev pub look_up : Table → Class → List ℕ → Option Definition
 look_up t class name = finite.get (of_class t class) name
 
 abbrev pub with_class : Table → Class → Names → Table
-with_class t Prefix names = record { prefix = names; infix_ = t.infix_; postfix = t.postfix }
-with_class t Infix names = record { prefix = t.prefix; infix_ = names; postfix = t.postfix }
-with_class t Postfix names = record { prefix = t.prefix; infix_ = t.infix_; postfix = names }
+with_class t Prefix names = record { prefixes = names; infixes = t.infixes; postfixes = t.postfixes }
+with_class t Infix names = record { prefixes = t.prefixes; infixes = names; postfixes = t.postfixes }
+with_class t Postfix names = record { prefixes = t.prefixes; infixes = t.infixes; postfixes = names }
 
 -- names with one more, in the place of what it had; priority 0 takes it away
 abbrev pub with_name : Names → ℕ → OpKind → List ℕ → Names

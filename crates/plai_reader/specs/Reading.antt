@@ -17,7 +17,8 @@ use Rattle.plai_reader.specs.declared.state.Action.TheVariants as action
 use Rattle.plai_reader.specs.Kinds.{is_postfix}
 use Rattle.plai_reader.specs.Level.{Builder, terms, Link, tree_of}
 use Rattle.plai_reader.specs.Operators.{Table}
-use Rattle.plai_reader.specs.Variables.{Variables, no_variables, number_at, after_token}
+use Rattle.plai_reader.specs.declared.variables.Variables.{Variables}
+use Rattle.plai_reader.specs.Variables.{no_variables, number_at, after_token}
 use Rattle.plai_reader.specs.Roles.{nil, is_end, is_edge, decided}
 
 -- An open level: what it stands in, its items before this one, its operators so far, each with what stands on its left, and the last place.

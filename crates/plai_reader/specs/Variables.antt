@@ -1,17 +1,11 @@
 -- The numbers of variables, from 0 by first appearance (ISO/IEC 13211-1:1995, 6.4.3: the variable `_` is new each time).
 use Rattle.std.specs.Prelude.{ℕ, ◌+◌, Bool, cond, nat_eq, Option, Some, None, unwrap_or, List, [], ◌∷◌, codes}
-use Rattle.std.specs.Ordering.{nat_cmp}
-use Rattle.std.specs.Cmp.Lexicographic.{pointwise, slice_cmp}
-use Rattle.std.specs.FinMap.{FinMap}
+use Rattle.std.specs.Cmp.Lexicographic.{pointwise}
 use Rattle.std.specs.FinMap as finite
+use Rattle.plai_reader.specs.declared.variables.Variables.{Variables}
 use Rattle.plai_lex.specs.declared.token.Token.{Token}
 use Rattle.plai_lex.specs.declared.token.TokenKind.{TokenKind}
 use Rattle.plai_lex.specs.declared.token.TokenKind.TheVariants as token
-
--- the numbers of names so far, and how many variables there are
-pub record Variables : Type 0 where
-  pub numbers : FinMap (slice_cmp nat_cmp) ℕ
-  pub count : ℕ
 
 abbrev pub no_variables : Variables
 no_variables = record { numbers = finite.empty; count = 0 }

@@ -1,12 +1,16 @@
 //! Reads terms of a profile of ISO Prolog from their tokens, under a table of operators (ISO/IEC 13211-1:1995, 6.3).
 #![tactic(auto)]
 
+mod by_name;
 mod fail;
 mod level;
 mod operator;
 mod state;
 mod stop;
+mod table;
 mod tree;
+mod variables;
 
 pub use fail::{OpFail, ReadTermFail};
 pub use operator::OpKind;
+pub use table::OpTable;

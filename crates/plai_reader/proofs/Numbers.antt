@@ -8,7 +8,8 @@ use Rattle.std.specs.FinMap as finite
 use Rattle.plai_lex.specs.declared.token.Token.{Token}
 use Rattle.plai_lex.specs.declared.token.TokenKind.{TokenKind}
 use Rattle.plai_lex.specs.declared.token.TokenKind.TheVariants as token
-use Rattle.plai_reader.specs.Variables.{Variables, no_variables, is_blank, known, number_of, counted, with_variable, number_at, after_token, after_tokens}
+use Rattle.plai_reader.specs.declared.variables.Variables.{Variables}
+use Rattle.plai_reader.specs.Variables.{no_variables, is_blank, known, number_of, counted, with_variable, number_at, after_token, after_tokens}
 
 -- a name's number is below the count
 abbrev pub IsNumbering : Variables → Type 0
