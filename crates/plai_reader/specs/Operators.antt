@@ -4,6 +4,7 @@ use Rattle.std.specs.Ordering.{nat_cmp}
 use Rattle.std.specs.Cmp.Lexicographic.{pointwise, slice_cmp}
 use Rattle.std.specs.FinMap.{FinMap}
 use Rattle.std.specs.FinMap as finite
+use Rattle.std.specs.Borrow.{Bor}
 use Rattle.plai_reader.specs.declared.operator.OpKind.{OpKind}
 use Rattle.plai_reader.specs.declared.operator.OpKind.TheVariants.{Xfx, Xfy, Yfx, Fx, Fy}
 use Rattle.plai_reader.specs.declared.operator.Class.{Class}
@@ -108,3 +109,8 @@ standard_rows =
 -- the table that each text begins with
 unfoldable pub standard : Table
 standard = with_rows no_operators standard_rows
+
+-- a table with operators added one by one
+abbrev pub with_entries : Table → List (ℕ × OpKind × Bor (List ℕ)) → Table
+with_entries t [] = t
+with_entries t (e ∷ es) = with_entries (with_operator t e.0 e.1 e.2.now) es

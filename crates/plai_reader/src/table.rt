@@ -1,12 +1,62 @@
 //! Tables of operators.
 ghost use Rattle.std.specs.Prelude.{◌≡◌, IfOk, OnOk, OnErr, MatchOption, IsOkUnless};
-ghost use Rattle.plai_reader.specs.Operators.{no_operators, look_up, with_operator, refusal, standard, clashes, is_reserved, of_class, with_name};
+ghost use Rattle.plai_reader.specs.Operators.{no_operators, look_up, with_operator, refusal, standard, clashes, is_reserved, of_class, with_name, with_entries};
 
 use crate::by_name::ByName;
 use crate::fail::OpFail;
 use crate::operator::{Class, Definition, OpKind};
 use plai_terms::Name;
 use std::alloc::{AllocError, Global};
+
+/// The operators that each text begins with.
+const STANDARD: [(u32, OpKind, &str); 46] = [
+    (1200, OpKind::Xfx, ":-"),
+    (1200, OpKind::Xfx, "-->"),
+    (1200, OpKind::Fx, ":-"),
+    (1200, OpKind::Fx, "?-"),
+    (1150, OpKind::Fx, "entry"),
+    (1150, OpKind::Fx, "check"),
+    (1150, OpKind::Fx, "trust"),
+    (1140, OpKind::Fx, "calls"),
+    (1140, OpKind::Fx, "success"),
+    (1100, OpKind::Xfy, ";"),
+    (1050, OpKind::Xfy, "->"),
+    (1000, OpKind::Xfy, ","),
+    (980, OpKind::Xfx, ":"),
+    (975, OpKind::Xfx, "=>"),
+    (900, OpKind::Fy, "\\+"),
+    (700, OpKind::Xfx, "="),
+    (700, OpKind::Xfx, "\\="),
+    (700, OpKind::Xfx, "=="),
+    (700, OpKind::Xfx, "\\=="),
+    (700, OpKind::Xfx, "@<"),
+    (700, OpKind::Xfx, "@=<"),
+    (700, OpKind::Xfx, "@>"),
+    (700, OpKind::Xfx, "@>="),
+    (700, OpKind::Xfx, "=.."),
+    (700, OpKind::Xfx, "is"),
+    (700, OpKind::Xfx, "=:="),
+    (700, OpKind::Xfx, "=\\="),
+    (700, OpKind::Xfx, "<"),
+    (700, OpKind::Xfx, "=<"),
+    (700, OpKind::Xfx, ">"),
+    (700, OpKind::Xfx, ">="),
+    (500, OpKind::Yfx, "+"),
+    (500, OpKind::Yfx, "-"),
+    (500, OpKind::Yfx, "/\\"),
+    (500, OpKind::Yfx, "\\/"),
+    (400, OpKind::Yfx, "*"),
+    (400, OpKind::Yfx, "/"),
+    (400, OpKind::Yfx, "//"),
+    (400, OpKind::Yfx, "rem"),
+    (400, OpKind::Yfx, "mod"),
+    (400, OpKind::Yfx, "<<"),
+    (400, OpKind::Yfx, ">>"),
+    (200, OpKind::Xfx, "**"),
+    (200, OpKind::Xfy, "^"),
+    (200, OpKind::Fy, "-"),
+    (200, OpKind::Fy, "\\"),
+];
 
 /// The operators by which a text is read.
 #[derive(Debug, Drop)]
@@ -51,6 +101,30 @@ impl OpTable {
             infixes: ByName::new(alloc),
             postfixes: ByName::new(alloc),
         }
+    }
+
+    fn set_all(
+        &mut self,
+        alloc: Global,
+        entries: &[(u32, OpKind, &str)],
+    ) -> Result<(), AllocError>
+        ensures { OnOk result (self.new ≡ with_entries self.old entries.now) }
+    {
+        for (priority, kind, text) in entries {
+            let name = Name::new(Vec::from_slice(alloc, text.as_bytes())?);
+            self.set(alloc, *priority, *kind, &name)?;
+        }
+        Ok(())
+    }
+
+    /// The table that each text begins with.
+    #[tactic(auto, unfolding(crate::specs::Operators::standard))]
+    pub fn standard(alloc: Global) -> Result<OpTable, AllocError>
+        ensures { IfOk result (λ table. table ≡ standard) }
+    {
+        let mut table = OpTable::empty(alloc);
+        table.set_all(alloc, &STANDARD)?;
+        Ok(table)
     }
 
     /// The operator of a class with that name.
