@@ -9,7 +9,7 @@ use Rattle.plai_terms.specs.Term.{depth_of}
 use Rattle.plai_terms.specs.Readable.{is_wide}
 use Rattle.plai_reader.specs.declared.tree.Tree.{Tree}
 use Rattle.plai_reader.specs.declared.tree.Tree.TheVariants.{Whole, Wide, Deep}
-use Rattle.plai_reader.specs.Limits.{limited, kept, depth_in, is_wide_tree, terms_in, deepest, is_wide_over, trees}
+use Rattle.plai_reader.specs.Limits.{limited, kept, depth_in, is_wide_tree, terms_in, deepest, is_wide_over, kept_trees}
 
 test_le : (n : ℕ) → nat_le n 1999 ≡ true → n ≤ 1999
 test_le n e = grind (arith, nat_tests)
@@ -110,7 +110,7 @@ module _ (name : List ℕ) (ts : List Term) where
   not_wide : is_wide (Compound name ts) ≡ false → list_any (λ b. b) (map is_wide ts) ≡ false
   not_wide e = (or-false (nat_lt 255 (length (map is_wide ts))) (list_any (λ b. b) (map is_wide ts)) (sym (is_wide-Compound name ts) ∙ e)).1
 
-  shallow_compound : greatest_depth 0 ts ≤ 1999 → kept (Compound name ts) ≡ trees.compound name (map kept ts)
+  shallow_compound : greatest_depth 0 ts ≤ 1999 → kept (Compound name ts) ≡ kept_trees.compound name (map kept ts)
   shallow_compound p =
       ap (λ d. limited d (is_wide (Compound name ts)) (Compound name ts)) (depth_of-Compound name ts)
       ∙ limited-same (1 + greatest_depth 0 ts) (is_wide (Compound name ts)) (Compound name ts) (Compound name (flat_map terms_in (map kept ts)))
@@ -118,16 +118,16 @@ module _ (name : List ℕ) (ts : List Term) where
       ∙ ap (λ d. limited (1 + d) (is_wide (Compound name ts)) (Compound name (flat_map terms_in (map kept ts)))) (sym (same_depth p))
       ∙ ap (λ w. limited (1 + deepest (map kept ts)) w (Compound name (flat_map terms_in (map kept ts)))) (sym (same_width p))
 
-  deep_compound : 1999 < greatest_depth 0 ts → kept (Compound name ts) ≡ trees.compound name (map kept ts)
+  deep_compound : 1999 < greatest_depth 0 ts → kept (Compound name ts) ≡ kept_trees.compound name (map kept ts)
   deep_compound p =
       let q = deepest-kept 0 ts in
       let d = depth_of-Compound name ts in
       limited-deep (depth_of (Compound name ts)) (is_wide (Compound name ts)) (Compound name ts) (omega arith)
       ∙ sym (limited-deep (1 + deepest (map kept ts)) (is_wide_over (map kept ts)) (Compound name (flat_map terms_in (map kept ts))) (omega arith))
 
-  pub kept-Compound : kept (Compound name ts) ≡ trees.compound name (map kept ts)
+  pub kept-Compound : kept (Compound name ts) ≡ kept_trees.compound name (map kept ts)
   kept-Compound =
-      let goal : Bool → Type 0 = λ b. nat_le (greatest_depth 0 ts) 1999 ≡ b → kept (Compound name ts) ≡ trees.compound name (map kept ts) in
+      let goal : Bool → Type 0 = λ b. nat_le (greatest_depth 0 ts) 1999 ≡ b → kept (Compound name ts) ≡ kept_trees.compound name (map kept ts) in
       let split : goal (nat_le (greatest_depth 0 ts) 1999) = elim (nat_le (greatest_depth 0 ts) 1999) as goal [
         | true ↦ λ e. shallow_compound (test_le (greatest_depth 0 ts) e)
         | false ↦ λ e. deep_compound (test_gt (greatest_depth 0 ts) e)
@@ -138,11 +138,11 @@ module _ (name : List ℕ) (ts : List Term) where
 kept-leaf : (t : Term) → depth_of t ≡ 1 → is_wide t ≡ false → kept t ≡ Whole t 1
 kept-leaf t d w = ap (λ n. limited n (is_wide t) t) d ∙ ap (λ b. limited 1 b t) w
 
-pub kept-Var : (n : ℕ) → kept (Var n) ≡ trees.variable n
+pub kept-Var : (n : ℕ) → kept (Var n) ≡ kept_trees.variable n
 kept-Var n = kept-leaf (Var n) (search (rules, the_lemmas)) (search (rules, the_lemmas))
 
-pub kept-Int : (n : ℤ) → kept (Int n) ≡ trees.integer n
+pub kept-Int : (n : ℤ) → kept (Int n) ≡ kept_trees.integer n
 kept-Int n = kept-leaf (Int n) (search (rules, the_lemmas)) (search (rules, the_lemmas))
 
-pub kept-Atom : (name : List ℕ) → kept (Atom name) ≡ trees.atom name
+pub kept-Atom : (name : List ℕ) → kept (Atom name) ≡ kept_trees.atom name
 kept-Atom name = kept-leaf (Atom name) (search (rules, the_lemmas)) (search (rules, the_lemmas))

@@ -8,3 +8,4 @@ pub mod Numbers
 pub mod Decisions
 pub mod Maps
 pub mod FiniteMaps
+pub mod Gathering

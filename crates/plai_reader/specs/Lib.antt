@@ -6,3 +6,4 @@ pub mod Roles
 pub mod Reading
 pub mod Climb
 pub mod Limits
+pub mod States

@@ -52,8 +52,8 @@ abbrev pub is_wide_over : List Tree → Bool
 is_wide_over ts = nat_lt 255 (length ts) || list_any is_wide_tree ts
 
 -- what is kept of trees is built of what is kept of their arguments
-abbrev pub trees : Builder Tree
-trees = record {
+abbrev pub kept_trees : Builder Tree
+kept_trees = record {
   variable = λ n. Whole (Var n) 1;
   integer = λ n. Whole (Int n) 1;
   atom = λ name. Whole (Atom name) 1;

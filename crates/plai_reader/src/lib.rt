@@ -2,6 +2,7 @@
 #![tactic(auto)]
 
 mod by_name;
+mod climb;
 mod fail;
 mod level;
 mod operator;

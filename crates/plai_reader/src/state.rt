@@ -1,4 +1,8 @@
 //! What is open while tokens are read.
+use crate::level::{Frame, Operand};
+use crate::operator::Operator;
+use crate::tree::Tree;
+use crate::variables::Variables;
 use plai_terms::Name;
 
 /// What a level stands in.
@@ -54,7 +58,7 @@ pub enum Action {
     /// It is an operand.
     Put(Leaf),
     /// It is an operator.
-    Push(crate::operator::Operator),
+    Push(Operator),
     /// It is taken together with the next token.
     Wait(Pending),
     /// It begins a level.
@@ -65,4 +69,26 @@ pub enum Action {
     Tail,
     /// It ends a level.
     End,
+}
+
+/// An open level.
+#[derive(Debug, Drop)]
+pub struct Level {
+    pub bracket: Bracket,
+    /// The items before this one.
+    pub items: Vec<Tree>,
+    /// The operators whose right side is being read, each with what stands on its left.
+    pub frames: Vec<Frame<Tree>>,
+    /// What stands behind the last operator.
+    pub place: Option<Operand<Tree>>,
+}
+
+/// A reader between two tokens.
+#[derive(Debug, Drop)]
+pub struct Reader {
+    pub inner: Level,
+    /// The levels around it, the innermost last.
+    pub outer: Vec<Level>,
+    pub mode: Mode,
+    pub variables: Variables,
 }
