@@ -101,7 +101,7 @@ module _ (limit : ℕ) (table : Table) where
   where_wanted-below n m token.OpenList rest h = choice (next_is is_close_list rest) _ _ tt tt
   where_wanted-below n m token.CloseList rest h = at_nil-below m.pending
   where_wanted-below n m (token.Name name) rest h =
-      choice (tight_next is_open rest) _ _ tt (choice (is_minus name rest) _ _ tt (named-below m.at_edge name rest))
+      choice (is_minus name rest) _ _ tt (choice (tight_next is_open rest) _ _ tt (named-below m.at_edge name rest))
   where_wanted-below n m (token.Quoted name) rest h = choice (tight_next is_open rest) _ _ tt (named-below m.at_edge name rest)
   where_wanted-below n m token.Close rest h = tt
   where_wanted-below n m token.Comma rest h = tt

@@ -106,6 +106,11 @@ named table at_edge name rest = elim (look_up table Prefix name) [
       (Some (action.Put (leaf.Atom name)))
 ]
 
+-- with arguments, or without
+abbrev pub functor_or_name : Table → Bool → List ℕ → List Token → Option Action
+functor_or_name table at_edge name rest =
+    cond (tight_next is_open rest) (Some (action.Wait (pending.Functor name))) (named table at_edge name rest)
+
 -- a bracket that closes the atom `[]`
 abbrev pub at_nil : Pending → Option Action
 at_nil pending.EmptyList = Some (action.Put (leaf.Atom nil))
@@ -121,10 +126,8 @@ where_wanted table number m token.OpenList rest =
     cond (next_is is_close_list rest) (Some (action.Wait pending.EmptyList)) (Some (action.Begin bracket.Items))
 where_wanted table number m token.CloseList rest = at_nil m.pending
 where_wanted table number m (token.Name name) rest =
-    cond (tight_next is_open rest) (Some (action.Wait (pending.Functor name)))
-    (cond (is_minus name rest) (Some (action.Wait pending.Minus)) (named table m.at_edge name rest))
-where_wanted table number m (token.Quoted name) rest =
-    cond (tight_next is_open rest) (Some (action.Wait (pending.Functor name))) (named table m.at_edge name rest)
+    cond (is_minus name rest) (Some (action.Wait pending.Minus)) (functor_or_name table m.at_edge name rest)
+where_wanted table number m (token.Quoted name) rest = functor_or_name table m.at_edge name rest
 where_wanted table number m _ rest = None
 
 -- an infix operator, else a postfix operator

@@ -3,6 +3,7 @@
 
 mod by_name;
 mod climb;
+mod decide;
 mod fail;
 mod level;
 mod operator;
