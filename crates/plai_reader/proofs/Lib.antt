@@ -2,6 +2,7 @@ pub mod Spine
 pub mod Climbs
 pub mod Weakest
 pub mod Trees
+pub mod Runs
 pub mod Readings
 pub mod Keeping
 pub mod Numbers
@@ -9,3 +10,4 @@ pub mod Decisions
 pub mod Maps
 pub mod FiniteMaps
 pub mod Gathering
+pub mod Lists

@@ -12,6 +12,7 @@ use Rattle.plai_reader.specs.declared.state.Bracket.{Bracket}
 use Rattle.plai_reader.specs.declared.state.Bracket.TheVariants as bracket
 use Rattle.plai_reader.specs.declared.state.Leaf.{Leaf}
 use Rattle.plai_reader.specs.declared.state.Leaf.TheVariants as leaf
+use Rattle.plai_reader.specs.declared.state.Mode.{Mode}
 use Rattle.plai_reader.specs.declared.state.Action.{Action}
 use Rattle.plai_reader.specs.declared.state.Action.TheVariants as action
 use Rattle.plai_reader.specs.Kinds.{left_of, right_of}
@@ -21,11 +22,12 @@ use Rattle.plai_reader.specs.Operators.{Table}
 use Rattle.plai_reader.specs.declared.variables.Variables.{Variables}
 use Rattle.plai_reader.specs.Variables.{no_variables, number_at, after_token, after_tokens}
 use Rattle.plai_reader.specs.Roles.{nil, is_end, decided}
-use Rattle.plai_reader.specs.Reading.{Layer, State, within, limit_of, list_of, leaf_tree, closed, put, back, pushed, begun, fresh, item, performed, behind, ended, last, run, start, read_of}
+use Rattle.plai_reader.specs.Reading.{Layer, State, within, limit_of, list_of, leaf_tree, closed, put, back, pushed, begun, fresh, item, performed, noted, behind, ended, last, run, start, read_of}
 use Rattle.plai_reader.proofs.Spine.{Place}
 use Rattle.plai_reader.proofs.Numbers.{IsNumbering, no_variables-IsNumbering, after_token-IsNumbering, after_tokens-grows, number_at-below}
 use Rattle.plai_reader.proofs.Decisions.{LeafBelow, ActionBelow, MaybeBelow, decided-below}
 use Rattle.plai_reader.proofs.Readings.{read-is}
+use Rattle.plai_reader.proofs.Runs.{run-cons}
 
 -- the map takes what the one builds to what the other builds, for variables below the limit
 pub record Keeps {T U : Type 0} (limit : ℕ) (A : Builder T) (B : Builder U) (h : T → U) : Type 0 where
@@ -158,9 +160,9 @@ module _ {T U : Type 0} (limit : ℕ) (A : Builder T) (B : Builder U) (h : T →
       ap (within (limit_of s.inner.bracket)) (finished-map s.inner.frames s.inner.place)
       ∙ within-map h (limit_of s.inner.bracket) (finished A s.inner.frames s.inner.place)
 
-  back-map : (t : T) (s : State T) (ls : List (Layer T)) → back (h t) (state_map h s) (map (layer_map h) ls) ≡ option_map (state_map h) (back t s ls)
-  back-map t s [] = refl
-  back-map t s (l ∷ ls) = refl
+  back-map : (t : T) (ls : List (Layer T)) (m : Mode) (vs : Variables) → back (h t) (map (layer_map h) ls) m vs ≡ option_map (state_map h) (back t ls m vs)
+  back-map t [] m vs = refl
+  back-map t (l ∷ ls) m vs = refl
 
   push-map : (o : Operator) (s : State T) (v : Option (List (Frame T) × Place T))
       → option_and_then (λ frames. Some (pushed o (state_map h s) frames)) (option_and_then (λ p. Some (record { left = p.1; operator = o } ∷ p.0)) (option_map (pop_map h) v))
@@ -190,10 +192,10 @@ module _ {T U : Type 0} (limit : ℕ) (A : Builder T) (B : Builder U) (h : T →
   performed-map action.Item s p = next-map s _ _ (λ t. more-map s.inner.bracket s t)
   performed-map action.Tail s p = next-map s _ _ (λ t. more-map bracket.Tail s t)
   performed-map action.End s p =
-      next-map s (λ t. back (closed A s.inner.bracket s.inner.items t) s s.outer)
-      (λ t. back (closed B s.inner.bracket (map h s.inner.items) t) (state_map h s) (map (layer_map h) s.outer))
-      (λ t. ap (λ u. back u (state_map h s) (map (layer_map h) s.outer)) (closed-map s.inner.bracket s.inner.items t)
-      ∙ back-map (closed A s.inner.bracket s.inner.items t) s s.outer)
+      next-map s (λ t. back (closed A s.inner.bracket s.inner.items t) s.outer s.mode s.variables)
+      (λ t. back (closed B s.inner.bracket (map h s.inner.items) t) (map (layer_map h) s.outer) s.mode s.variables)
+      (λ t. ap (λ u. back u (map (layer_map h) s.outer) s.mode s.variables) (closed-map s.inner.bracket s.inner.items t)
+      ∙ back-map (closed A s.inner.bracket s.inner.items t) s.outer s.mode s.variables)
 
   ended-map : (s : State T) (ls : List (Layer T)) → ended (climbing B) (state_map h s) (map (layer_map h) ls) ≡ option_map h (ended (climbing A) s ls)
   ended-map s [] = ap (cond s.mode.wanted None) (item-map s) ∙ cond_map s.mode.wanted h None (item (climbing A) s)
@@ -212,9 +214,9 @@ module _ {T U : Type 0} (limit : ℕ) (A : Builder T) (B : Builder U) (h : T →
   then_are vs f None e = tt
   then_are vs f (Some x) e = e x
 
-  back-variables : (t : T) (s : State T) (ls : List (Layer T)) → VariablesAre s.variables (back t s ls)
-  back-variables t s [] = tt
-  back-variables t s (l ∷ ls) = refl
+  back-variables : (t : T) (ls : List (Layer T)) (m : Mode) (vs : Variables) → VariablesAre vs (back t ls m vs)
+  back-variables t [] m vs = tt
+  back-variables t (l ∷ ls) m vs = refl
 
   performed-variables : (a : Action) (s : State T) → VariablesAre s.variables (performed A (climbing A) a s)
   performed-variables (action.Put l) s = refl
@@ -224,7 +226,7 @@ module _ {T U : Type 0} (limit : ℕ) (A : Builder T) (B : Builder U) (h : T →
   performed-variables (action.Begin b) s = refl
   performed-variables action.Item s = then_are s.variables _ (item (climbing A) s) (λ t. refl)
   performed-variables action.Tail s = then_are s.variables _ (item (climbing A) s) (λ t. refl)
-  performed-variables action.End s = then_are s.variables _ (item (climbing A) s) (λ t. back-variables (closed A s.inner.bracket s.inner.items t) s s.outer)
+  performed-variables action.End s = then_are s.variables _ (item (climbing A) s) (λ t. back-variables (closed A s.inner.bracket s.inner.items t) s.outer s.mode s.variables)
 
   then_map_where : (vs : Variables) (f : State T → Option T) (g : State U → Option U) (v : Option (State T)) → VariablesAre vs v
       → ((t : State T) → t.variables ≡ vs → g (state_map h t) ≡ option_map h (f t))
@@ -233,14 +235,14 @@ module _ {T U : Type 0} (limit : ℕ) (A : Builder T) (B : Builder U) (h : T →
   then_map_where vs f g (Some t) k e = e t k
 
   step-map : (table : Table) (x : Token) (xs : List Token) (s : State T) (v : Option Action) → MaybeBelow limit v
-      → ((t : State T) → t.variables ≡ s.variables → run B (climbing B) table (behind x (state_map h t)) xs ≡ option_map h (run A (climbing A) table (behind x t) xs))
-      → option_and_then (λ a. option_and_then (λ t. run B (climbing B) table (behind x t) xs) (performed B (climbing B) a (state_map h s))) v
-      ≡ option_map h (option_and_then (λ a. option_and_then (λ t. run A (climbing A) table (behind x t) xs) (performed A (climbing A) a s)) v)
+      → ((t : State T) → t.variables ≡ after_token s.variables x.kind → run B (climbing B) table (behind x (state_map h t)) xs ≡ option_map h (run A (climbing A) table (behind x t) xs))
+      → option_and_then (λ a. option_and_then (λ t. run B (climbing B) table (behind x t) xs) (performed B (climbing B) a (noted x (state_map h s)))) v
+      ≡ option_map h (option_and_then (λ a. option_and_then (λ t. run A (climbing A) table (behind x t) xs) (performed A (climbing A) a (noted x s))) v)
   step-map table x xs s None p below = refl
   step-map table x xs s (Some a) p below =
-      ap (option_and_then (λ t. run B (climbing B) table (behind x t) xs)) (performed-map a s p)
-      ∙ then_map_where s.variables (λ t. run A (climbing A) table (behind x t) xs) (λ t. run B (climbing B) table (behind x t) xs) (performed A (climbing A) a s)
-      (performed-variables a s) below
+      ap (option_and_then (λ t. run B (climbing B) table (behind x t) xs)) (performed-map a (noted x s) p)
+      ∙ then_map_where (after_token s.variables x.kind) (λ t. run A (climbing A) table (behind x t) xs) (λ t. run B (climbing B) table (behind x t) xs)
+      (performed A (climbing A) a (noted x s)) (performed-variables a (noted x s)) below
 
   pub run-map : (table : Table) (ts : List Token) (s : State T) → IsNumbering s.variables → (after_tokens s.variables ts).count ≤ limit
       → run B (climbing B) table (state_map h s) ts ≡ option_map h (run A (climbing A) table s ts)
@@ -249,12 +251,14 @@ module _ {T U : Type 0} (limit : ℕ) (A : Builder T) (B : Builder U) (h : T →
       let now : (after_token s.variables x.kind).count ≤ limit = let q = after_tokens-grows (after_token s.variables x.kind) xs in omega arith in
       let number = number_at s.variables x.kind in
       let below = decided-below limit table number s.mode s.inner.bracket x.kind xs (number_at-below s.variables x.kind limit n now) in
-      let next : (t : State T) → t.variables ≡ s.variables → run B (climbing B) table (behind x (state_map h t)) xs ≡ option_map h (run A (climbing A) table (behind x t) xs)
+      let next : (t : State T) → t.variables ≡ after_token s.variables x.kind → run B (climbing B) table (behind x (state_map h t)) xs ≡ option_map h (run A (climbing A) table (behind x t) xs)
       = λ t e. run-map table xs (behind x t)
-          (subst (λ vs. IsNumbering (after_token vs x.kind)) (sym e) (after_token-IsNumbering s.variables x.kind n))
-          (subst (λ vs. (after_tokens (after_token vs x.kind) xs).count ≤ limit) (sym e) p) in
+          (subst IsNumbering (sym e) (after_token-IsNumbering s.variables x.kind n))
+          (subst (λ vs. (after_tokens vs xs).count ≤ limit) (sym e) p) in
       let step = step-map table x xs s (decided table number s.mode s.inner.bracket x.kind xs) below next in
-      cond_same (is_end x.kind) _ _ _ _ (last-map s xs) step ∙ cond_map (is_end x.kind) h _ _
+      run-cons B (climbing B) table (state_map h s) x xs
+      ∙ cond_same (is_end x.kind) _ _ _ _ (last-map s xs) step ∙ cond_map (is_end x.kind) h _ _
+      ∙ ap (option_map h) (sym (run-cons A (climbing A) table s x xs))
 
   pub read-map : (table : Table) (ts : List Token) → (after_tokens no_variables ts).count ≤ limit → read_of B table ts ≡ option_map h (read_of A table ts)
   read-map table ts p =

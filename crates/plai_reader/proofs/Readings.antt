@@ -16,9 +16,10 @@ use Rattle.plai_reader.specs.Operators.{Table}
 use Rattle.plai_reader.specs.declared.variables.Variables.{Variables}
 use Rattle.plai_reader.specs.Variables.{number_at, after_token}
 use Rattle.plai_reader.specs.Roles.{is_end, decided}
-use Rattle.plai_reader.specs.Reading.{Layer, State, first_place, links_of, whole, wanting, within, limit_of, closed, leaf_tree, placed, put, back, pushed, begun, item, performed, behind, ended, last, run, start, read_of}
+use Rattle.plai_reader.specs.Reading.{Layer, State, first_place, links_of, whole, wanting, within, limit_of, closed, leaf_tree, placed, put, back, pushed, begun, item, performed, noted, behind, ended, last, run, start, read_of}
 use Rattle.plai_reader.proofs.Spine.{Place}
 use Rattle.plai_reader.proofs.Trees.{climbed-tree}
+use Rattle.plai_reader.proofs.Runs.{run-cons}
 
 abbrev frame : {T : Type 0} → Place T → Operator → Frame T
 frame l o = record { left = l; operator = o }
@@ -88,9 +89,9 @@ module _ {T : Type 0} (build : Builder T) where
   item-dead : (s : State T) → Dead s.inner.frames → item (whole build) s ≡ None
   item-dead s h = ap (within (limit_of s.inner.bracket)) (sym (continued-end s.inner.frames s.inner.place) ∙ h s.inner.place [])
 
-  back-dead : (t : T) (s : State T) (ls : List (Layer T)) → DeadIn ls → DeadNext (back t s ls)
-  back-dead t s [] h = absurd h
-  back-dead t s (l ∷ ls) h = h
+  back-dead : (t : T) (ls : List (Layer T)) (m : Mode) (vs : Variables) → DeadIn ls → DeadNext (back t ls m vs)
+  back-dead t [] m vs h = absurd h
+  back-dead t (l ∷ ls) m vs h = h
 
   -- after an item
   then-dead : (next : T → Option (State T)) (v : Option T) → ((t : T) → DeadNext (next t)) → DeadNext (option_and_then next v)
@@ -112,7 +113,7 @@ module _ {T : Type 0} (build : Builder T) where
   performed-dead (action.Begin b) s h = inr h
   performed-dead action.Item s h = item-next s _ h (λ r t. inr r)
   performed-dead action.Tail s h = item-next s _ h (λ r t. inr r)
-  performed-dead action.End s h = item-next s _ h (λ r t. back-dead _ s s.outer r)
+  performed-dead action.End s h = item-next s _ h (λ r t. back-dead _ s.outer s.mode s.variables r)
 
   ended-dead : (s : State T) (ls : List (Layer T)) → DeadIn (s.inner ∷ ls) → ended (whole build) s ls ≡ None
   ended-dead s [] h =
@@ -133,18 +134,19 @@ module _ {T : Type 0} (build : Builder T) where
 
   decided-dead : (table : Table) (s : State T) (x : Token) (xs : List Token) (v : Option Action) → DeadIn (s.inner ∷ s.outer)
       → ((t : State T) → DeadIn (t.inner ∷ t.outer) → run build (whole build) table t xs ≡ None)
-      → option_and_then (λ a. option_and_then (λ t. run build (whole build) table (behind x t) xs) (performed build (whole build) a s)) v ≡ None
+      → option_and_then (λ a. option_and_then (λ t. run build (whole build) table (behind x t) xs) (performed build (whole build) a (noted x s))) v ≡ None
   decided-dead table s x xs None h below = refl
   decided-dead table s x xs (Some a) h below =
-      after-dead (λ t. run build (whole build) table (behind x t) xs) (performed build (whole build) a s) (performed-dead a s h) (λ t d. below (behind x t) d)
+      after-dead (λ t. run build (whole build) table (behind x t) xs) (performed build (whole build) a (noted x s)) (performed-dead a (noted x s) h) (λ t d. below (behind x t) d)
 
   -- once a level has no tree, there is no term
   pub run-dead : (table : Table) (s : State T) (ts : List Token) → DeadIn (s.inner ∷ s.outer) → run build (whole build) table s ts ≡ None
   run-dead table s [] h = refl
   run-dead table s (x ∷ xs) h =
       let step = decided-dead table s x xs (decided table (number_at s.variables x.kind) s.mode s.inner.bracket x.kind xs) h (λ t d. run-dead table t xs d) in
-      elim (is_end x.kind) as (λ b. cond b (last (whole build) s xs)
-      (option_and_then (λ a. option_and_then (λ t. run build (whole build) table (behind x t) xs) (performed build (whole build) a s))
+      run-cons build (whole build) table s x xs
+      ∙ elim (is_end x.kind) as (λ b. cond b (last (whole build) s xs)
+      (option_and_then (λ a. option_and_then (λ t. run build (whole build) table (behind x t) xs) (performed build (whole build) a (noted x s)))
       (decided table (number_at s.variables x.kind) s.mode s.inner.bracket x.kind xs)) ≡ None)
       [ true ↦ last-dead s xs h | false ↦ step ]
 
@@ -190,9 +192,10 @@ module _ {T : Type 0} (build : Builder T) where
     pub dead : (s : State T) → DeadIn (s.inner ∷ s.outer) → left s ≡ None
 
   module _ (left right : State T → Option T) (alike : Alike left right) where
-    back-same : (t : T) (p : Pairs) (ps : List Pair) → option_and_then left (back t (left_state p) (map wholly ps)) ≡ option_and_then right (back t (right_state p) (map climbingly ps))
-    back-same t p [] = refl
-    back-same t p (q ∷ qs) = alike.at (record { inner = placed_pair t q; outer = qs; mode = wanting false p.mode; variables = p.variables })
+    back-same : (t : T) (ps : List Pair) (m : Mode) (vs : Variables)
+        → option_and_then left (back t (map wholly ps) m vs) ≡ option_and_then right (back t (map climbingly ps) m vs)
+    back-same t [] m vs = refl
+    back-same t (q ∷ qs) m vs = alike.at (record { inner = placed_pair t q; outer = qs; mode = wanting false m; variables = vs })
 
     then-same : (f g : T → Option (State T)) (v : Option T) → ((t : T) → option_and_then left (f t) ≡ option_and_then right (g t))
         → option_and_then left (option_and_then f v) ≡ option_and_then right (option_and_then g v)
@@ -240,7 +243,7 @@ module _ {T : Type 0} (build : Builder T) where
         (λ t. alike.at (record { inner = fresh_pair bracket.Tail (p.inner.items ++ t ∷ []); outer = p.outer; mode = wanting true p.mode; variables = p.variables }))
     performed-same action.End p =
         items-same _ _ (item (whole build) (left_state p)) (item (climbing build) (right_state p)) (item-same p)
-        (λ t. back-same (closed build p.inner.bracket p.inner.items t) p p.outer)
+        (λ t. back-same (closed build p.inner.bracket p.inner.items t) p.outer p.mode p.variables)
 
   ended-same : (p : Pairs) (ps : List Pair) → ended (whole build) (left_state p) (map wholly ps) ≡ ended (climbing build) (right_state p) (map climbingly ps)
   ended-same p [] = ap (cond p.mode.wanted None) (item-same p)
@@ -250,29 +253,34 @@ module _ {T : Type 0} (build : Builder T) where
   last-same p [] = ended-same p p.outer
   last-same p (x ∷ xs) = refl
 
+  abbrev noted_pairs : Token → Pairs → Pairs
+  noted_pairs x p = record { inner = p.inner; outer = p.outer; mode = p.mode; variables = after_token p.variables x.kind }
+
   step-same : (table : Table) (x : Token) (xs : List Token) (p : Pairs) (v : Option Action)
       → Alike (λ t. run build (whole build) table (behind x t) xs) (λ t. run build (climbing build) table (behind x t) xs)
-      → option_and_then (λ a. option_and_then (λ t. run build (whole build) table (behind x t) xs) (performed build (whole build) a (left_state p))) v
-      ≡ option_and_then (λ a. option_and_then (λ t. run build (climbing build) table (behind x t) xs) (performed build (climbing build) a (right_state p))) v
+      → option_and_then (λ a. option_and_then (λ t. run build (whole build) table (behind x t) xs) (performed build (whole build) a (noted x (left_state p)))) v
+      ≡ option_and_then (λ a. option_and_then (λ t. run build (climbing build) table (behind x t) xs) (performed build (climbing build) a (noted x (right_state p)))) v
   step-same table x xs p None alike = refl
   step-same table x xs p (Some a) alike =
-      performed-same (λ t. run build (whole build) table (behind x t) xs) (λ t. run build (climbing build) table (behind x t) xs) alike a p
+      performed-same (λ t. run build (whole build) table (behind x t) xs) (λ t. run build (climbing build) table (behind x t) xs) alike a (noted_pairs x p)
 
   abbrev behind_pairs : Token → Pairs → Pairs
-  behind_pairs x p = record { inner = p.inner; outer = p.outer; mode = (behind x (left_state p)).mode; variables = after_token p.variables x.kind }
+  behind_pairs x p = record { inner = p.inner; outer = p.outer; mode = (behind x (left_state p)).mode; variables = p.variables }
 
   pub run-same : (table : Table) (ts : List Token) (p : Pairs) → run build (whole build) table (left_state p) ts ≡ run build (climbing build) table (right_state p) ts
   run-same table [] p = refl
   run-same table (x ∷ xs) p =
       let step = step-same table x xs p (decided table (number_at p.variables x.kind) p.mode p.inner.bracket x.kind xs)
       (record { at = λ q. run-same table xs (behind_pairs x q); dead = λ s d. run-dead table (behind x s) xs d }) in
-      elim (is_end x.kind) as (λ b. cond b (last (whole build) (left_state p) xs)
-      (option_and_then (λ a. option_and_then (λ t. run build (whole build) table (behind x t) xs) (performed build (whole build) a (left_state p)))
+      run-cons build (whole build) table (left_state p) x xs
+      ∙ elim (is_end x.kind) as (λ b. cond b (last (whole build) (left_state p) xs)
+      (option_and_then (λ a. option_and_then (λ t. run build (whole build) table (behind x t) xs) (performed build (whole build) a (noted x (left_state p))))
       (decided table (number_at p.variables x.kind) p.mode p.inner.bracket x.kind xs))
       ≡ cond b (last (climbing build) (right_state p) xs)
-      (option_and_then (λ a. option_and_then (λ t. run build (climbing build) table (behind x t) xs) (performed build (climbing build) a (right_state p)))
+      (option_and_then (λ a. option_and_then (λ t. run build (climbing build) table (behind x t) xs) (performed build (climbing build) a (noted x (right_state p))))
       (decided table (number_at p.variables x.kind) p.mode p.inner.bracket x.kind xs)))
       [ true ↦ last-same p xs | false ↦ step ]
+      ∙ sym (run-cons build (climbing build) table (right_state p) x xs)
 
   -- Climbing in one pass reads the same tree as whole levels.
   pub read-is : (table : Table) (ts : List Token) → read_of build table ts ≡ run build (climbing build) table start ts

@@ -72,9 +72,9 @@ module _ {T : Type 0} where
   placed t l = record { bracket = l.bracket; items = l.items; frames = l.frames; place = Some (record { tree = t; priority = 0 }) }
 
   -- a tree in the level around the one that ends
-  abbrev pub back : T → State T → List (Layer T) → Option (State T)
-  back t s [] = None
-  back t s (l ∷ ls) = Some (record { inner = placed t l; outer = ls; mode = wanting false s.mode; variables = s.variables })
+  abbrev pub back : T → List (Layer T) → Mode → Variables → Option (State T)
+  back t [] m vs = None
+  back t (l ∷ ls) m vs = Some (record { inner = placed t l; outer = ls; mode = wanting false m; variables = vs })
 
   abbrev pub put : T → State T → State T
   put t s = record { inner = placed t s.inner; outer = s.outer; mode = wanting false s.mode; variables = s.variables }
@@ -94,13 +94,17 @@ module _ {T : Type 0} where
   abbrev pub item : Way T → State T → Option T
   item w s = within (limit_of s.inner.bracket) (w.tree s.inner.frames s.inner.place)
 
+  -- a token is a variable, or none
+  abbrev pub noted : Token → State T → State T
+  noted x s = record { inner = s.inner; outer = s.outer; mode = s.mode; variables = after_token s.variables x.kind }
+
   -- behind a token
   abbrev pub behind : Token → State T → State T
   behind x s = record {
     inner = s.inner;
     outer = s.outer;
     mode = record { wanted = s.mode.wanted; pending = s.mode.pending; at_edge = is_edge x.kind };
-    variables = after_token s.variables x.kind;
+    variables = s.variables;
   }
 
   -- at the end all brackets are closed and an operator is wanted
@@ -133,11 +137,15 @@ module _ {T : Type 0} (build : Builder T) where
   list_of [] tail = tail
   list_of (x ∷ xs) tail = build.compound (codes ".") (x ∷ list_of xs tail ∷ [])
 
+  -- the list of a text's codes
+  abbrev pub text_tree : List ℕ → T
+  text_tree text = list_of (map (λ c. build.integer (pos c)) text) (build.atom nil)
+
   abbrev pub leaf_tree : Leaf → T
   leaf_tree (leaf.Variable n) = build.variable n
   leaf_tree (leaf.Integer n) = build.integer n
   leaf_tree (leaf.Atom name) = build.atom name
-  leaf_tree (leaf.Text text) = list_of (map (λ c. build.integer (pos c)) text) (build.atom nil)
+  leaf_tree (leaf.Text text) = text_tree text
 
   -- what a level stands for, by what it stands in, its items and the last one
   abbrev pub closed : Bracket → List T → T → T
@@ -154,14 +162,18 @@ module _ {T : Type 0} (build : Builder T) where
   performed w (action.Begin b) s = Some (begun (fresh b []) (s.inner ∷ s.outer) s)
   performed w action.Item s = option_and_then (λ t. Some (begun (fresh s.inner.bracket (s.inner.items ++ t ∷ [])) s.outer s)) (item w s)
   performed w action.Tail s = option_and_then (λ t. Some (begun (fresh bracket.Tail (s.inner.items ++ t ∷ [])) s.outer s)) (item w s)
-  performed w action.End s = option_and_then (λ t. back (closed s.inner.bracket s.inner.items t) s s.outer) (item w s)
+  performed w action.End s = option_and_then (λ t. back (closed s.inner.bracket s.inner.items t) s.outer s.mode s.variables) (item w s)
+
+  -- one token, before these
+  abbrev pub stepped : Way T → Table → State T → Token → List Token → Option (State T)
+  stepped w table s x xs =
+      option_and_then (λ a. option_and_then (λ t. Some (behind x t)) (performed w a (noted x s)))
+      (decided table (number_at s.variables x.kind) s.mode s.inner.bracket x.kind xs)
 
   -- the tokens of a term are those up to and with its End
   abbrev pub run : Way T → Table → State T → List Token → Option T
   run w table s [] = None
-  run w table s (x ∷ xs) = cond (is_end x.kind) (last w s xs)
-      (option_and_then (λ a. option_and_then (λ t. run w table (behind x t) xs) (performed w a s))
-      (decided table (number_at s.variables x.kind) s.mode s.inner.bracket x.kind xs))
+  run w table s (x ∷ xs) = cond (is_end x.kind) (last w s xs) (option_and_then (λ t. run w table t xs) (stepped w table s x xs))
 
   unfoldable pub read_of : Table → List Token → Option T
   read_of table tokens = run whole table start tokens

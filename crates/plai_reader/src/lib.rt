@@ -1,13 +1,16 @@
 //! Reads terms of a profile of ISO Prolog from their tokens, under a table of operators (ISO/IEC 13211-1:1995, 6.3).
 #![tactic(auto)]
 
+mod build;
 mod by_name;
 mod climb;
 mod decide;
 mod fail;
 mod level;
 mod operator;
+mod read;
 mod state;
+mod steps;
 mod stop;
 mod table;
 mod tree;

@@ -3,10 +3,9 @@ ghost use Rattle.std.specs.Prelude.{◌≡◌, ◌<◌, ◌-◌, ◌^◌, IfOk, 
 ghost use Rattle.plai_reader.specs.Variables.{no_variables, known, number_of, with_variable, number_at, after_token, is_blank};
 
 use crate::by_name::ByName;
-use crate::stop::Stop;
 use plai_lex::TokenKind;
 use plai_terms::Name;
-use std::alloc::Global;
+use std::alloc::{AllocError, Global};
 
 /// The numbers of the variables' names so far, and how many variables there are.
 #[derive(Debug, Drop)]
@@ -42,7 +41,7 @@ impl Variables {
     }
 
     /// The number of a variable, which is noted if it is new.
-    fn number(&mut self, alloc: Global, name: &Name) -> Result<u32, Stop>
+    fn number(&mut self, alloc: Global, name: &Name) -> Result<u32, AllocError>
         requires { self.old.count < 2 ^ 32 - 1 }
         ensures number { IfOk result (λ n. n ≡ number_of self.old name.now) }
         ensures after { OnOk result (self.new ≡ with_variable self.old name.now) }
@@ -59,7 +58,7 @@ impl Variables {
     }
 
     /// The number of a token that is a variable, which is noted if it is new.
-    pub fn take(&mut self, alloc: Global, kind: &TokenKind) -> Result<u32, Stop>
+    pub fn take(&mut self, alloc: Global, kind: &TokenKind) -> Result<u32, AllocError>
         requires { self.old.count < 2 ^ 32 - 1 }
         ensures number { IfOk result (λ n. n ≡ number_at self.old kind.now) }
         ensures after { OnOk result (self.new ≡ after_token self.old kind.now) }
