@@ -1,6 +1,9 @@
+pub mod Adapters
+pub mod Calls
 pub mod Causes
 pub mod Mask
 pub mod Memory
+pub mod MemoryLibraries
 pub mod MemoryStreams
 pub mod Sets
 pub mod Texts

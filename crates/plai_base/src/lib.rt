@@ -1,4 +1,5 @@
-//! What the analyser asks of the outside: a library of files, a source of bytes and a sink of bytes.
+//! What the analyser asks of the outside: a library of files, a source of bytes and a sink of bytes. And what
+//! all its layers count with: sets of slots, and the number of steps taken.
 #![tactic(auto)]
 
 mod adapters;
@@ -7,6 +8,8 @@ mod memory_library;
 mod memory_streams;
 mod outside;
 mod steps;
+#[cfg(test)]
+mod tests;
 mod whole;
 
 pub use adapters::{FileLibrary, InputSource, OutputSink};

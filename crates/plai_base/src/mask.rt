@@ -1,10 +1,13 @@
+// Sets of slots in one word.
 ghost use Rattle.std.specs.Prelude.{◌≡◌, ◌<◌, ◌/◌, ◌^◌, ◌↔◌, ℕ, IsTrue, MatchOption, bit_or, bit_and, IfOk};
 ghost use Rattle.plai_base.specs.Mask.{has_slot, mask_of, meet, slots_of};
 
 use std::alloc::{AllocError, Global};
 use std::marker::Model;
 
-/// A set of slots below 64, that contracts see as the number with those bits.
+/// A set of slots, each from 0 to 63, that contracts see as the number below 2^64 with those bits.
+///
+/// Its calls take no memory, but for [`Mask::slots`], and refuse nothing.
 #[derive(Clone, Copy, Debug, PartialEq, Eq, Hash)]
 pub struct Mask {
     bits: u64,
@@ -23,6 +26,7 @@ impl Model for Mask {
 }
 
 impl Mask {
+    /// The set without slots.
     pub fn empty() -> Mask
         ensures { result ≡ 0 }
     {
@@ -36,13 +40,14 @@ impl Mask {
         Mask { bits }
     }
 
+    /// The number whose bits are 1 at the slots.
     pub fn bits(self) -> u64
         ensures { result ≡ self }
     {
         self.bits
     }
 
-    /// The set of one slot.
+    /// The set of one slot, below 64.
     pub fn of(slot: u32) -> Mask
         requires { slot < 64 }
         ensures { result ≡ mask_of slot }
@@ -50,6 +55,7 @@ impl Mask {
         Mask { bits: 1 << slot }
     }
 
+    /// Whether a slot below 64 is in the set.
     pub fn contains(self, slot: u32) -> bool
         requires { slot < 64 }
         ensures { result ≡ has_slot self slot }
@@ -57,13 +63,14 @@ impl Mask {
         self.bits >> slot & 1 == 1
     }
 
-    /// Whether the slot, which may be any number, is in the set.
+    /// Whether a slot, which may be any number, is in the set. No slot from 64 on is.
     pub fn has(self, slot: u32) -> bool
         ensures { result ≡ has_slot self slot }
     {
         slot < 64 && self.bits >> slot & 1 == 1
     }
 
+    /// The set with one slot more, below 64.
     pub fn insert(self, slot: u32) -> Mask
         requires { slot < 64 }
         ensures { result ≡ bit_or self (mask_of slot) }
@@ -73,6 +80,7 @@ impl Mask {
         }
     }
 
+    /// The slots of either set.
     pub fn union(self, other: Mask) -> Mask
         ensures { result ≡ bit_or self other }
     {
@@ -81,16 +89,16 @@ impl Mask {
         }
     }
 
-    /// The part on the slots of `kept`.
-    pub fn project(self, kept: Mask) -> Mask
-        ensures { result ≡ bit_and self kept }
+    /// The slots that both sets have.
+    pub fn project(self, onto: Mask) -> Mask
+        ensures { result ≡ bit_and self onto }
     {
         Mask {
-            bits: self.bits & kept.bits,
+            bits: self.bits & onto.bits,
         }
     }
 
-    /// The slots from a first one on, renumbered from 0.
+    /// The slots from a first one on, which is below 64, renumbered from 0.
     pub fn after(self, first: u32) -> Mask
         requires { first < 64 }
         ensures { result ≡ self / 2 ^ first }
@@ -100,19 +108,21 @@ impl Mask {
         }
     }
 
+    /// Whether the sets have a slot in common.
     pub fn meets(self, other: Mask) -> bool
         ensures { IsTrue result ↔ meet self other }
     {
         self.bits & other.bits != 0
     }
 
+    /// Whether the set has no slot.
     pub fn is_empty(self) -> bool
         ensures { IsTrue result ↔ (self ≡ 0) }
     {
         self.bits == 0
     }
 
-    /// The least slot.
+    /// The least slot, or none exactly where the set is empty.
     pub fn lowest(self) -> Option<u32>
         ensures { MatchOption result (self ≡ 0)
             (λ slot. IsTrue (has_slot self slot) × (slot < 64) × ((k : ℕ) → k < slot → ¬ (IsTrue (has_slot self k)))) }
@@ -124,7 +134,7 @@ impl Mask {
         }
     }
 
-    /// The slots in order.
+    /// The slots in ascending order.
     pub fn slots(self, alloc: Global) -> Result<Vec<u32>, AllocError>
         ensures { IfOk result (λ slots. slots.items ≡ slots_of self) }
     {

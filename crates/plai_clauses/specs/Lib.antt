@@ -1,0 +1,4 @@
+pub mod Builtins
+pub mod Program
+pub mod WellFormed
+pub mod Codes

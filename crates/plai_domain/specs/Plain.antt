@@ -1,5 +1,6 @@
 -- The meaning of an abstract domain: plain functions over patterns (Muthukumar and Hermenegildo 1992).
-use Rattle.std.specs.Prelude.{ℕ, List, Option, Bool}
+use Rattle.std.specs.Prelude.{ℕ, List, [], Option, Bool}
+pub use Rattle.plai_theory.specs.Words.{UpTo}
 use Rattle.plai_terms.specs.declared.term.Term.{Term}
 use Rattle.plai_terms.specs.declared.prop.Prop.{Prop}
 use Rattle.plai_terms.specs.declared.abs.Abs.{Abs}
@@ -38,3 +39,7 @@ pub record PlainDomain : Type 1 where
   pub describes : Abs → List Term → Type 0
   -- a state describes an instance: the head's arguments and a term for each variable
   pub describes_instance : StateView → List Term → List Term → Type 0
+
+-- what an operation gives that forms no sets
+abbrev pub forms_none : {A : Type 0} → A → Formed A
+forms_none value = record { sizes = []; value = value }

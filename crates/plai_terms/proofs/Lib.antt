@@ -1,5 +1,11 @@
+pub mod GroupOrder
 pub mod Joined
+pub mod PatternTexts
+pub mod RowOrders
 pub mod Same
+pub mod Shapes
 pub mod Skeletons
+pub mod Sorted
 pub mod Substs
+pub mod Tables
 pub mod Terms

@@ -21,9 +21,6 @@ depth_example = search (rules, the_lemmas)
 occurs_example : occurs 1 (Compound (102 ∷ []) (Var 1 ∷ Compound (103 ∷ []) (Int (pos 3) ∷ []) ∷ [])) ≡ true
 occurs_example = grind (rules, the_lemmas)
 
-occurs_example_2 : occurs 1 (Compound (102 ∷ []) (Var 1 ∷ Compound (103 ∷ []) (Int (pos 3) ∷ []) ∷ [])) ≡ true
-occurs_example_2 = simp the_lemmas
-
 -- An induction over terms: the hypothesis at a compound is that each argument has the property.
 module _ (P : Term → Type 0)
     (on_var : (v : ℕ) → P (Var v))

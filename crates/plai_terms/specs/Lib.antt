@@ -1,6 +1,12 @@
-pub mod Atom
 pub mod formers
 pub mod Term
 pub mod Subst
+pub mod Atom
 pub mod Print
+pub mod Shape
+pub mod Groups
+pub mod Pattern
+pub mod RowOrder
+pub mod Substitution
+pub mod Unification
 pub mod Readable

@@ -13,5 +13,6 @@ text_step (Term-F.Int n) = signed_decimal n
 text_step (Term-F.Atom a) = atom_text a
 text_step (Term-F.Compound name texts) = atom_text name ++ codes "(" ++ join_with_byte 44 texts ++ codes ")"
 
+-- the text of a term
 abbrev pub text_of : Term → List ℕ
 text_of = fold-Term (List ℕ) text_step

@@ -1,4 +1,4 @@
--- Substitutions.
+-- Substitutions, and what they make of a term (ISO/IEC 13211-1:1995, 7.3.1; Lloyd, Foundations of Logic Programming, 1987).
 use Rattle.std.specs.Prelude.{ℕ, if◌then◌else◌, ◌==◌, List, [], ◌∷◌, ◌++◌, map}
 use Rattle.plai_terms.specs.declared.term.Term.{Term, fold-Term, Var, Int, Atom, Compound}
 use Rattle.plai_terms.specs.declared.term.Term.TheOpen.{Term-F}

@@ -1,5 +1,5 @@
--- What the functions over terms compute.
-use Rattle.std.specs.Prelude.{ℕ, ◌+◌, Bool, true, false, nat_eq, nat_lt, max, fold, sum}
+-- Depth, variables and groundness of terms (ISO/IEC 13211-1:1995, 7.1 and 7.1.1.1).
+use Rattle.std.specs.Prelude.{ℕ, ◌+◌, Bool, true, false, nat_eq, nat_lt, max, fold}
 use Rattle.std.specs.List.{list_any, list_all}
 use Rattle.plai_terms.specs.declared.term.Term.{Term, fold-Term}
 use Rattle.plai_terms.specs.declared.term.Term.TheOpen.{Term-F}
@@ -11,36 +11,33 @@ depth_step (Term-F.Int _) = 1
 depth_step (Term-F.Atom _) = 1
 depth_step (Term-F.Compound _ depths) = 1 + fold max 0 depths
 
+-- one more than the depth of the deepest argument
 abbrev pub depth_of : Term → ℕ
 depth_of = fold-Term ℕ depth_step
 
-abbrev pub size_step : Term-F ℕ → ℕ
-size_step (Term-F.Var _) = 1
-size_step (Term-F.Int _) = 1
-size_step (Term-F.Atom _) = 1
-size_step (Term-F.Compound _ sizes) = 1 + sum sizes
-
-abbrev pub size_of : Term → ℕ
-size_of = fold-Term ℕ size_step
-
+-- one level: the arguments are ground
 abbrev pub ground_step : Term-F Bool → Bool
 ground_step (Term-F.Var _) = false
 ground_step (Term-F.Int _) = true
 ground_step (Term-F.Atom _) = true
 ground_step (Term-F.Compound _ grounds) = list_all (λ b. b) grounds
 
+-- no variable occurs
 abbrev pub is_ground : Term → Bool
 is_ground = fold-Term Bool ground_step
 
+-- one level: the variable occurs in an argument
 abbrev pub occurs_step : ℕ → Term-F Bool → Bool
 occurs_step v (Term-F.Var w) = nat_eq v w
 occurs_step v (Term-F.Int _) = false
 occurs_step v (Term-F.Atom _) = false
 occurs_step v (Term-F.Compound _ occurrences) = list_any (λ b. b) occurrences
 
+-- the variable occurs
 abbrev pub occurs : ℕ → Term → Bool
 occurs v = fold-Term Bool (occurs_step v)
 
+-- one level: the variables of the arguments are below the limit
 abbrev pub below_step : ℕ → Term-F Bool → Bool
 below_step limit (Term-F.Var v) = nat_lt v limit
 below_step limit (Term-F.Int _) = true

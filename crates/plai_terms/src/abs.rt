@@ -5,12 +5,19 @@ use crate::skeleton::Skeleton;
 use plai_base::Mask;
 use std::alloc::{AllocError, Global};
 
-/// What a call's arguments may be.
+/// A pattern: what the arguments of a call may be, or those of an answer.
+///
+/// Arguments are slots, numbered from 0.
 #[derive(Debug, PartialEq, Eq, Hash, Drop)]
 pub enum Abs {
+    /// No answer.
     Nothing,
+    /// Groundness: of so many arguments, the sets of those that may be ground together, each set a mask.
     Pos(u32, Listed<Mask>),
+    /// Sharing and freeness: of so many arguments, the groups of those that may share a variable, and
+    /// those that are free variables (Jacobs and Langen 1992; Muthukumar and Hermenegildo 1992).
     Groups(u32, Listed<Mask>, Mask),
+    /// A term cut at a depth for each argument.
     Terms(Listed<Skeleton>),
 }
 
@@ -21,6 +28,7 @@ fn copy_masks(alloc: Global, masks: &Listed<Mask>) -> Result<Listed<Mask>, Alloc
 }
 
 impl Abs {
+    /// An equal pattern.
     pub fn copy(&self, alloc: Global) -> Result<Abs, AllocError>
         ensures { IfOk result (λ abs. abs ≡ self.now) }
     {

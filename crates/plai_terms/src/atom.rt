@@ -66,13 +66,23 @@ fn hex_digit(value: u8) -> u8
     requires { value < 16 }
     ensures { result ≡ hex_digit value }
 {
-    if value < 10 { b'0' + value } else { b'a' - 10 + value }
+    if value < 10 {
+        b'0' + value
+    } else {
+        b'a' - 10 + value
+    }
 }
 
 fn write_hex(byte: u8, out: &mut Vec<u8>) -> Result<(), AllocError>
     ensures { OnOk result (out.new.items ≡ out.old.items ++ hex_text byte) }
 {
-    out.extend_from_slice(&[b'\\', b'x', hex_digit(byte / 16), hex_digit(byte % 16), b'\\'])
+    out.extend_from_slice(&[
+        b'\\',
+        b'x',
+        hex_digit(byte / 16),
+        hex_digit(byte % 16),
+        b'\\',
+    ])
 }
 
 fn write_escaped(byte: u8, out: &mut Vec<u8>) -> Result<(), AllocError>

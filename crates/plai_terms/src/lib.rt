@@ -1,25 +1,36 @@
-//! Terms, names, predicates, patterns and their texts.
+//! Terms of Prolog, names, predicates, the patterns of calls and answers, and the texts of all of these.
+//!
+//! The forms are those of ISO/IEC 13211-1:1995. Lists in public types are small structs, which contracts
+//! see as the list of their items.
 #![tactic(auto)]
 
 mod abs;
 mod atom;
+mod groups;
+mod laws;
 mod listed;
 mod name;
 mod non_empty;
+mod outcome;
+mod pattern;
 mod pred_key;
 mod print;
 mod prop;
 mod read_term;
 mod row_name;
+mod shape;
 mod skeleton;
 mod subst;
 mod term;
 
 pub use abs::Abs;
 pub use atom::{print_atom, print_name, print_quoted};
+pub use laws::{rows_are_ordered, texts_differ};
 pub use listed::Listed;
 pub use name::Name;
 pub use non_empty::NonEmpty;
+pub use outcome::Outcome;
+pub use pattern::print_abs;
 pub use pred_key::PredKey;
 pub use print::print_term;
 pub use prop::Prop;

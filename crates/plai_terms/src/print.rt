@@ -60,7 +60,7 @@ fn write_variable(number: u32, out: &mut Vec<u8>) -> Result<(), AllocError>
     out.extend_from_slice(buffer.format(number).as_bytes())
 }
 
-fn write_integer(value: i128, out: &mut Vec<u8>) -> Result<(), AllocError>
+pub(crate) fn write_integer(value: i128, out: &mut Vec<u8>) -> Result<(), AllocError>
     ensures { OnOk result (out.new.items ≡ out.old.items ++ signed_decimal value) }
 {
     let mut buffer = Buffer::new();

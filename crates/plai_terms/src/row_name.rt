@@ -4,10 +4,12 @@ use crate::abs::Abs;
 use crate::pred_key::PredKey;
 use std::alloc::{AllocError, Global};
 
-/// The name of a row: a predicate and a call pattern.
+/// The name of a row of a table: a predicate, and what the arguments of its calls may be.
 #[derive(Debug, PartialEq, Eq, Hash, Drop)]
 pub struct RowName {
+    /// The predicate.
     pub pred: PredKey,
+    /// The pattern of the calls.
     pub call: Abs,
 }
 

@@ -4,16 +4,23 @@ use crate::listed::Listed;
 use crate::name::Name;
 use std::alloc::{AllocError, Global};
 
+/// A term cut at a depth: it stands for a set of terms.
 #[derive(Debug, PartialEq, Eq, Hash, Drop)]
 pub enum Skeleton {
+    /// All terms.
     Any,
+    /// All integers.
     Integer,
+    /// One integer.
     Int(i128),
+    /// One atom.
     Atom(Name),
+    /// The compounds of this name whose arguments are in these sets.
     Compound(Name, Listed<Skeleton>),
 }
 
 impl Skeleton {
+    /// An equal skeleton.
     #[cycle(copy)]
     pub fn copy(&self, alloc: Global) -> Result<Skeleton, AllocError>
         ensures { IfOk result (λ s. s ≡ self.now) }
@@ -30,6 +37,7 @@ impl Skeleton {
         }
     }
 
+    /// Equal skeletons, in order.
     #[cycle(copy)]
     pub fn copy_all(alloc: Global, items: &[Skeleton]) -> Result<Vec<Skeleton>, AllocError>
         ensures { IfOk result (λ copies. copies.items ≡ items.now) }

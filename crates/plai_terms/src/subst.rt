@@ -7,7 +7,7 @@ use crate::term::{Args, Term};
 use std::alloc::{AllocError, Global};
 use std::marker::Model;
 
-/// Bindings of distinct variables, that contracts see as the list of pairs.
+/// A substitution: bindings of distinct variables, that contracts see as the list of pairs.
 #[derive(Drop)]
 pub struct Subst {
     pairs: Vec<(u32, Term)>,
@@ -30,6 +30,7 @@ impl Model for Subst {
 }
 
 impl Subst {
+    /// The substitution with these bindings.
     pub fn new(pairs: Vec<(u32, Term)>) -> Subst
         requires { IsDistinct nat_eq (map (λ p. p.0) pairs.items) }
         ensures { result ≡ pairs.items }
@@ -44,6 +45,7 @@ impl Subst {
         Ok(Subst::new(vec![in alloc; (variable, term)]?))
     }
 
+    /// The bindings.
     pub fn as_slice(&self) -> &[(u32, Term)]
         ensures { result.now ≡ self.now }
     {
@@ -61,7 +63,7 @@ impl Subst {
         Ok(Term::Var(variable))
     }
 
-    /// Replaces each bound variable.
+    /// The term with each bound variable replaced, all at once.
     #[cycle(apply)]
     pub fn apply(&self, alloc: Global, term: &Term) -> Result<Term, AllocError>
         ensures { IfOk result (λ t. t ≡ apply_of self.now term.now) }

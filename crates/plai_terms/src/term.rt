@@ -5,18 +5,25 @@ use crate::name::Name;
 use crate::non_empty::NonEmpty;
 use std::alloc::{AllocError, Global};
 
-/// The arguments of a compound.
+/// The arguments of a compound: at least one.
 pub type Args = NonEmpty<Term>;
 
+/// A term (ISO/IEC 13211-1:1995, 6.1.2 and 7.1). Contracts see it as data, with a name as its bytes and
+/// arguments as a list.
 #[derive(Debug, PartialEq, Eq, Hash, Drop)]
 pub enum Term {
+    /// A variable, by its number from 0.
     Var(u32),
+    /// An integer.
     Int(i128),
+    /// An atom.
     Atom(Name),
+    /// A compound: its name and its arguments.
     Compound(Name, Args),
 }
 
 impl Term {
+    /// An equal term.
     #[cycle(copy)]
     pub fn copy(&self, alloc: Global) -> Result<Term, AllocError>
         ensures { IfOk result (λ t. t ≡ self.now) }
@@ -31,7 +38,7 @@ impl Term {
 }
 
 impl Term {
-    /// Whether the variable occurs.
+    /// Whether the variable occurs in the term.
     pub fn occurs(&self, variable: u32) -> bool
         ensures { result ≡ occurs variable self.now }
     {
@@ -49,7 +56,7 @@ impl Term {
         }
     }
 
-    /// Whether no variable occurs.
+    /// Whether the term has no variables.
     pub fn is_ground(&self) -> bool
         ensures { result ≡ is_ground self.now }
     {
@@ -85,7 +92,8 @@ impl Term {
         }
     }
 
-    /// The depth, or the largest number.
+    /// How deep the term is, or the largest `u32`: a variable, an integer and an atom are 1 deep, and a
+    /// compound is one deeper than its deepest argument.
     pub fn depth(&self) -> u32
         ensures { result ≡ min (depth_of self.now) (2 ^ 32 - 1) }
     {
@@ -103,6 +111,7 @@ impl Term {
 }
 
 impl NonEmpty<Term> {
+    /// Equal arguments.
     #[cycle(copy)]
     pub fn copy(&self, alloc: Global) -> Result<Args, AllocError>
         ensures { IfOk result (λ args. args ≡ self.now) }

@@ -1,0 +1,4 @@
+mod Deciding
+mod Ending
+mod Outcomes
+mod Reading

@@ -1,0 +1,6 @@
+pub mod Ending
+pub mod Form
+pub mod Outcome
+pub mod Stops
+pub mod Told
+pub mod Words

@@ -1,0 +1,14 @@
+pub mod Actions
+pub mod Call
+pub mod Direct
+pub mod Enter
+pub mod Holds
+pub mod Laws
+pub mod Order
+pub mod Parts
+pub mod Properties
+pub mod Rank
+pub mod Refine
+pub mod Sound
+pub mod Soundness
+pub mod Lawful

@@ -1,0 +1,15 @@
+use Rattle.plai_assignments.proofs.Soundness.{larger_describes, describe_describes, entailed_holds, excluded_fails, enter_describes, call_describes, back_describes, refine_describes, exit_describes}
+use Rattle.plai_assignments.proofs.groundness_is_sound.Goals as goal
+
+pub returns : goal.returns
+returns c = record {
+  larger = λ n a b. larger_describes;
+  describe = describe_describes;
+  entails = entailed_holds;
+  excludes = excluded_fails;
+  enter = enter_describes;
+  call = λ s hs ts args d. call_describes s hs ts d args;
+  back = λ s hs ts args r answer d below. back_describes s hs ts d args below r answer;
+  refine = λ s hs ts args r action d below. refine_describes s hs ts d args below r action;
+  exit = λ s hs ts head d. exit_describes s hs ts d head;
+}

@@ -1,0 +1,4 @@
+pub mod Assignments
+pub mod Described
+pub mod Groundness
+pub mod Truths

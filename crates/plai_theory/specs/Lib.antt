@@ -1,0 +1,14 @@
+pub mod Words
+pub mod Domain
+pub mod Evaluation
+pub mod Stages
+pub mod LeastTable
+pub mod Tables
+pub mod Snapshots
+pub mod Rounds
+pub mod LegalWork
+pub mod Count
+pub mod Edits
+pub mod Limits
+pub mod Measure
+pub mod Claims
