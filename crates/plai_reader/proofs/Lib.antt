@@ -11,3 +11,5 @@ pub mod Maps
 pub mod FiniteMaps
 pub mod Gathering
 pub mod Lists
+pub mod Answering
+pub mod Passing

@@ -27,7 +27,7 @@ use Rattle.plai_reader.proofs.Spine.{Place}
 use Rattle.plai_reader.proofs.Numbers.{IsNumbering, no_variables-IsNumbering, after_token-IsNumbering, after_tokens-grows, number_at-below}
 use Rattle.plai_reader.proofs.Decisions.{LeafBelow, ActionBelow, MaybeBelow, decided-below}
 use Rattle.plai_reader.proofs.Readings.{read-is}
-use Rattle.plai_reader.proofs.Runs.{run-cons}
+use Rattle.plai_reader.proofs.Runs.{run-cons, VariablesAre, performed-variables}
 
 -- the map takes what the one builds to what the other builds, for variables below the limit
 pub record Keeps {T U : Type 0} (limit : ℕ) (A : Builder T) (B : Builder U) (h : T → U) : Type 0 where
@@ -205,29 +205,6 @@ module _ {T U : Type 0} (limit : ℕ) (A : Builder T) (B : Builder U) (h : T →
   last-map s [] = ended-map s s.outer
   last-map s (x ∷ xs) = refl
 
-  -- an action changes no numbers
-  abbrev VariablesAre : Variables → Option (State T) → Type 0
-  VariablesAre vs None = Unit {0}
-  VariablesAre vs (Some t) = t.variables ≡ vs
-
-  then_are : {X : Type 0} (vs : Variables) (f : X → Option (State T)) (v : Option X) → ((x : X) → VariablesAre vs (f x)) → VariablesAre vs (option_and_then f v)
-  then_are vs f None e = tt
-  then_are vs f (Some x) e = e x
-
-  back-variables : (t : T) (ls : List (Layer T)) (m : Mode) (vs : Variables) → VariablesAre vs (back t ls m vs)
-  back-variables t [] m vs = tt
-  back-variables t (l ∷ ls) m vs = refl
-
-  performed-variables : (a : Action) (s : State T) → VariablesAre s.variables (performed A (climbing A) a s)
-  performed-variables (action.Put l) s = refl
-  performed-variables (action.Push o) s =
-      then_are s.variables (λ frames. Some (pushed o s frames)) ((climbing A).push o s.inner.frames s.inner.place) (λ frames. refl)
-  performed-variables (action.Wait w) s = refl
-  performed-variables (action.Begin b) s = refl
-  performed-variables action.Item s = then_are s.variables _ (item (climbing A) s) (λ t. refl)
-  performed-variables action.Tail s = then_are s.variables _ (item (climbing A) s) (λ t. refl)
-  performed-variables action.End s = then_are s.variables _ (item (climbing A) s) (λ t. back-variables (closed A s.inner.bracket s.inner.items t) s.outer s.mode s.variables)
-
   then_map_where : (vs : Variables) (f : State T → Option T) (g : State U → Option U) (v : Option (State T)) → VariablesAre vs v
       → ((t : State T) → t.variables ≡ vs → g (state_map h t) ≡ option_map h (f t))
       → option_and_then g (option_map (state_map h) v) ≡ option_map h (option_and_then f v)
@@ -242,7 +219,7 @@ module _ {T U : Type 0} (limit : ℕ) (A : Builder T) (B : Builder U) (h : T →
   step-map table x xs s (Some a) p below =
       ap (option_and_then (λ t. run B (climbing B) table (behind x t) xs)) (performed-map a (noted x s) p)
       ∙ then_map_where (after_token s.variables x.kind) (λ t. run A (climbing A) table (behind x t) xs) (λ t. run B (climbing B) table (behind x t) xs)
-      (performed A (climbing A) a (noted x s)) (performed-variables a (noted x s)) below
+      (performed A (climbing A) a (noted x s)) (performed-variables A (climbing A) a (noted x s)) below
 
   pub run-map : (table : Table) (ts : List Token) (s : State T) → IsNumbering s.variables → (after_tokens s.variables ts).count ≤ limit
       → run B (climbing B) table (state_map h s) ts ≡ option_map h (run A (climbing A) table s ts)
@@ -253,8 +230,8 @@ module _ {T U : Type 0} (limit : ℕ) (A : Builder T) (B : Builder U) (h : T →
       let below = decided-below limit table number s.mode s.inner.bracket x.kind xs (number_at-below s.variables x.kind limit n now) in
       let next : (t : State T) → t.variables ≡ after_token s.variables x.kind → run B (climbing B) table (behind x (state_map h t)) xs ≡ option_map h (run A (climbing A) table (behind x t) xs)
       = λ t e. run-map table xs (behind x t)
-          (subst IsNumbering (sym e) (after_token-IsNumbering s.variables x.kind n))
-          (subst (λ vs. (after_tokens vs xs).count ≤ limit) (sym e) p) in
+      (subst IsNumbering (sym e) (after_token-IsNumbering s.variables x.kind n))
+      (subst (λ vs. (after_tokens vs xs).count ≤ limit) (sym e) p) in
       let step = step-map table x xs s (decided table number s.mode s.inner.bracket x.kind xs) below next in
       run-cons B (climbing B) table (state_map h s) x xs
       ∙ cond_same (is_end x.kind) _ _ _ _ (last-map s xs) step ∙ cond_map (is_end x.kind) h _ _

@@ -1,5 +1,5 @@
 -- The numbers of variables are below how many there are in the end.
-use Rattle.std.proofs.Common.{◌≡◌, ℕ, ◌+◌, ◌≤◌, ◌<◌, Bool, true, false, cond, List, [], ◌∷◌, refl, ap, sym, ◌∙◌, subst, arith}
+use Rattle.std.proofs.Common.{ℕ, ◌+◌, ◌≤◌, ◌<◌, Bool, true, false, cond, List, [], ◌∷◌, sym, subst, arith}
 use Rattle.std.specs.Prelude.{Option, Some, None, IfSome, unwrap_or}
 use Rattle.std.specs.Ordering.{nat_cmp, eq_by_cmp}
 use Rattle.std.specs.Cmp.Lexicographic.{slice_cmp, nat_list_cmp_total}
@@ -9,7 +9,7 @@ use Rattle.plai_lex.specs.declared.token.Token.{Token}
 use Rattle.plai_lex.specs.declared.token.TokenKind.{TokenKind}
 use Rattle.plai_lex.specs.declared.token.TokenKind.TheVariants as token
 use Rattle.plai_reader.specs.declared.variables.Variables.{Variables}
-use Rattle.plai_reader.specs.Variables.{no_variables, is_blank, known, number_of, counted, with_variable, number_at, after_token, after_tokens}
+use Rattle.plai_reader.specs.Variables.{no_variables, is_blank, known, counted, number_at, after_token, after_tokens}
 
 -- a name's number is below the count
 abbrev pub IsNumbering : Variables → Type 0

@@ -1,5 +1,5 @@
 -- Reading by climbing gives what reading whole levels gives.
-use Rattle.std.proofs.Common.{◌≡◌, Bool, true, false, cond, ◌⊎◌, inl, inr, List, [], ◌∷◌, ◌++◌, map, refl, ap, sym, ◌∙◌, subst, append_assoc}
+use Rattle.std.proofs.Common.{◌≡◌, true, false, cond, ◌⊎◌, inl, inr, List, [], ◌∷◌, ◌++◌, map, refl, ap, sym, ◌∙◌, subst, append_assoc}
 use Rattle.std.specs.Prelude.{Option, Some, None, option_and_then}
 use Rattle.std.proofs.lemmas.List.{append-nil}
 use Rattle.plai_lex.specs.declared.token.Token.{Token}
@@ -16,7 +16,7 @@ use Rattle.plai_reader.specs.Operators.{Table}
 use Rattle.plai_reader.specs.declared.variables.Variables.{Variables}
 use Rattle.plai_reader.specs.Variables.{number_at, after_token}
 use Rattle.plai_reader.specs.Roles.{is_end, decided}
-use Rattle.plai_reader.specs.Reading.{Layer, State, first_place, links_of, whole, wanting, within, limit_of, closed, leaf_tree, placed, put, back, pushed, begun, item, performed, noted, behind, ended, last, run, start, read_of}
+use Rattle.plai_reader.specs.Reading.{Layer, State, first_place, links_of, whole, wanting, within, limit_of, closed, leaf_tree, placed, back, pushed, item, performed, noted, behind, ended, last, run, start, read_of}
 use Rattle.plai_reader.proofs.Spine.{Place}
 use Rattle.plai_reader.proofs.Trees.{climbed-tree}
 use Rattle.plai_reader.proofs.Runs.{run-cons}

@@ -1,7 +1,7 @@
 -- The tree of a level by its weakest operator (ISO/IEC 13211-1:1995, 6.3.4).
 -- A level is its first place, and then each operator with the place behind it. A place has an operand, or none: before a prefix
 -- operator and behind a postfix operator nothing stands.
-use Rattle.std.specs.Prelude.{ℕ, ℤ, suc, zero, max, Bool, true, false, cond, nat_eq, nat_lt, nat_le, Option, Some, None, option_and_then, List, [], ◌∷◌, ◌++◌, length}
+use Rattle.std.specs.Prelude.{ℕ, ℤ, suc, zero, max, cond, nat_eq, nat_lt, nat_le, Option, Some, None, option_and_then, List, [], ◌∷◌, ◌++◌, length}
 use Rattle.plai_terms.specs.declared.term.Term.{Term, Var, Int, Atom, Compound}
 use Rattle.plai_reader.specs.declared.operator.Side.{Side}
 use Rattle.plai_reader.specs.declared.operator.Side.TheVariants.{Nothing, Below, UpTo}

@@ -1,5 +1,5 @@
 -- The limits of terms that are read, what reading answers, and what is kept of a tree while it is read.
-use Rattle.std.specs.Prelude.{ℕ, ◌+◌, ◌*◌, Bool, true, false, cond, ◌||◌, nat_lt, nat_le, max, fold, Option, Some, None, Result, Ok, Err, List, [], ◌∷◌, map, length}
+use Rattle.std.specs.Prelude.{ℕ, ◌+◌, Bool, true, false, cond, ◌||◌, nat_lt, nat_le, max, fold, Option, Some, None, Result, Ok, Err, List, [], ◌∷◌, map, length}
 use Rattle.std.specs.List.{list_any, flat_map}
 use Rattle.plai_terms.specs.declared.term.Term.{Term, Var, Int, Atom, Compound}
 use Rattle.plai_terms.specs.declared.read_term.ReadTerm.{ReadTerm}
@@ -7,7 +7,7 @@ use Rattle.plai_terms.specs.Term.{depth_of}
 use Rattle.plai_terms.specs.Readable.{is_wide}
 use Rattle.plai_lex.specs.declared.token.Token.{Token}
 use Rattle.plai_reader.specs.declared.fail.ReadTermFail.{ReadTermFail}
-use Rattle.plai_reader.specs.declared.fail.ReadTermFail.TheVariants.{Memory, Syntax, TooDeep, ArityTooLarge}
+use Rattle.plai_reader.specs.declared.fail.ReadTermFail.TheVariants.{Syntax, TooDeep, ArityTooLarge}
 use Rattle.plai_reader.specs.declared.tree.Tree.{Tree}
 use Rattle.plai_reader.specs.declared.tree.Tree.TheVariants.{Whole, Wide, Deep}
 use Rattle.plai_reader.specs.Level.{Builder}

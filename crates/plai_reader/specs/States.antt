@@ -1,9 +1,8 @@
 -- What the reader's values stand for, and what its steps return.
-use Rattle.std.specs.Prelude.{◌≡◌, ℕ, ◌<◌, Bool, Option, Some, None, Result, Ok, Err, List, map, reverse, pos}
+use Rattle.std.specs.Prelude.{◌≡◌, ℕ, Option, Some, None, Result, Ok, Err, List, map, reverse}
 use Rattle.std.specs.Int.{IsNonNegative}
 use Rattle.std.proofs.Common.{Vec, Global}
 use Rattle.plai_terms.specs.declared.read_term.ReadTerm.{ReadTerm}
-use Rattle.plai_lex.specs.declared.token.Token.{Token}
 use Rattle.plai_lex.specs.declared.token.TokenKind.{TokenKind}
 use Rattle.plai_lex.specs.declared.token.TokenKind.TheVariants as token
 use Rattle.plai_reader.specs.declared.stop.Stop.{Stop}
@@ -13,6 +12,7 @@ use Rattle.plai_reader.specs.declared.fail.ReadTermFail.TheVariants.{Memory, Syn
 use Rattle.plai_reader.specs.declared.tree.Tree.{Tree}
 use Rattle.plai_reader.specs.declared.state.Level.{Level}
 use Rattle.plai_reader.specs.declared.state.Reader.{Reader}
+use Rattle.plai_reader.specs.declared.state.Read.{Read}
 use Rattle.plai_reader.specs.Reading.{Layer, State}
 
 abbrev pub layer_of : Level → Layer Tree
@@ -47,6 +47,12 @@ Lists items (Err stop.Memory) = Unit {0}
 abbrev pub IsWritten : TokenKind → Type 0
 IsWritten (token.Int n) = IsNonNegative n
 IsWritten _ = Unit {0}
+
+-- the tree of a term and its number of variables
+abbrev pub Reads : Option Tree → ℕ → Result Read Stop → Type 0
+Reads outcome n (Ok read) = (outcome ≡ Some read.tree) × (n ≡ read.variables)
+Reads outcome n (Err stop.Syntax) = outcome ≡ None
+Reads outcome n (Err stop.Memory) = Unit {0}
 
 -- this answer, or no memory
 abbrev pub IsAnswer : Result ReadTerm ReadTermFail → Result ReadTerm ReadTermFail → Type 0

@@ -115,12 +115,7 @@ pub fn append(items: Vec<Tree>, tree: Tree) -> Result<Vec<Tree>, Stop>
 }
 
 /// What a level stands for, with its last item.
-pub fn close(
-    alloc: Global,
-    bracket: Bracket,
-    items: Vec<Tree>,
-    tree: Tree,
-) -> Result<Tree, Stop>
+pub fn close(alloc: Global, bracket: Bracket, items: Vec<Tree>, tree: Tree) -> Result<Tree, Stop>
     ensures { Makes (closed kept_trees bracket items.items tree) result }
 {
     match bracket {

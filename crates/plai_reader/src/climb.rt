@@ -90,11 +90,7 @@ pub fn reduce(
 }
 
 /// Applies all frames.
-pub fn finish(
-    alloc: Global,
-    frames: &mut Vec<Frame<Tree>>,
-    current: Place,
-) -> Result<Place, Stop>
+pub fn finish(alloc: Global, frames: &mut Vec<Frame<Tree>>, current: Place) -> Result<Place, Stop>
     ensures { Gives (finished kept_trees (reverse frames.old.items) current) result }
 {
     let mut current = current;

@@ -18,4 +18,5 @@ mod variables;
 
 pub use fail::{OpFail, ReadTermFail};
 pub use operator::OpKind;
+pub use read::read_term;
 pub use table::OpTable;

@@ -92,3 +92,11 @@ pub struct Reader {
     pub mode: Mode,
     pub variables: Variables,
 }
+
+/// What a reader gives at the end.
+#[derive(Debug, Drop)]
+pub struct Read {
+    pub tree: Tree,
+    /// How many variables there are.
+    pub variables: u32,
+}

@@ -196,12 +196,7 @@ fn next_tail(alloc: Global, reader: Reader) -> Result<Reader, Stop>
 }
 
 /// A tree in the level around the one that ends.
-fn go_back(
-    tree: Tree,
-    outer: Vec<Level>,
-    mode: &Mode,
-    variables: Variables,
-) -> Result<Reader, Stop>
+fn go_back(tree: Tree, outer: Vec<Level>, mode: &Mode, variables: Variables) -> Result<Reader, Stop>
     ensures { Steps (back tree (layers_of outer.items) mode.now variables) result }
 {
     let mut outer = outer;

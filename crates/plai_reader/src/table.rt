@@ -103,11 +103,7 @@ impl OpTable {
         }
     }
 
-    fn set_all(
-        &mut self,
-        alloc: Global,
-        entries: &[(u32, OpKind, &str)],
-    ) -> Result<(), AllocError>
+    fn set_all(&mut self, alloc: Global, entries: &[(u32, OpKind, &str)]) -> Result<(), AllocError>
         ensures { OnOk result (self.new ≡ with_entries self.old entries.now) }
     {
         for (priority, kind, text) in entries {

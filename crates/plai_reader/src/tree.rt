@@ -79,8 +79,5 @@ pub fn compound(alloc: Global, name: Name, trees: Vec<Tree>) -> Result<Tree, All
     if wide {
         return Ok(Tree::Wide(deepest + 1));
     }
-    Ok(Tree::Whole(
-        Term::Compound(name, Args::new(terms)),
-        deepest + 1,
-    ))
+    Ok(Tree::Whole(Term::Compound(name, Args::new(terms)), deepest + 1))
 }

@@ -1,7 +1,3 @@
-use Rattle.std.proofs.Common.{◌≡◌, ◌++◌, map, max, fold}
-use Rattle.std.specs.Prelude.{◌||◌}
-use Rattle.std.specs.List.{list_any, flat_map}
-use Rattle.plai_reader.specs.Limits.{depth_in, deepest, is_wide_tree, is_wide_over, terms_in}
 use Rattle.plai_reader.proofs.Gathering.{Gathers}
 use Rattle.plai_reader.proofs.tree.gather.Given as goal
 

@@ -1,4 +1,4 @@
-use Rattle.std.proofs.Common.{ap, sym, ◌∙◌}
+use Rattle.std.proofs.Common.{ap, ◌∙◌}
 use Rattle.std.specs.FinMap as finite
 use Rattle.plai_reader.proofs.FiniteMaps.{remove-view}
 use Rattle.plai_reader.proofs.by_name.ByName.remove.Goals as goal
