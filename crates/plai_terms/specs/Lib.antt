@@ -9,4 +9,3 @@ pub mod Pattern
 pub mod RowOrder
 pub mod Substitution
 pub mod Unification
-pub mod Readable
