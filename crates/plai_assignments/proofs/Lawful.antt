@@ -1,12 +1,12 @@
 -- Groundness meets the laws of an abstract domain.
 use Rattle.std.proofs.Common.{[]}
-use Rattle.plai_domain.specs.Outcomes.{IsOver}
+use Rattle.plai_domain.specs.Outcomes.{SomeTooLarge}
 use Rattle.plai_domain.specs.Laws.{IsLawful}
 use Rattle.plai_assignments.specs.Groundness.{groundness}
 use Rattle.plai_assignments.proofs.Laws.{trans, antisym, left, right, above_first, above_second, least, falls, describe_value, enter_monotone, call_monotone, back_monotone, refine_monotone, exit_monotone}
 
 -- no set is too large where none is formed
-nothing_over : IsOver [] → ⊥
+nothing_over : SomeTooLarge [] → ⊥
 nothing_over over = cc
 
 pub groundness_lawful : IsLawful groundness

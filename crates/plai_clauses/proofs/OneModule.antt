@@ -71,7 +71,7 @@ pub entries_of-one_module : (m : List ℕ) (cs : List Clause) (es : List Entry) 
 entries_of-one_module m cs es = append-nil es
 
 -- what passes a filter is in the list and passes the test
-of_filter : {A : Type 0} (test : A → Bool) (xs : List A) (x : A) → IsIn x (filter test xs) → IsIn x xs × (test x ≡ true)
+pub of_filter : {A : Type 0} (test : A → Bool) (xs : List A) (x : A) → IsIn x (filter test xs) → IsIn x xs × (test x ≡ true)
 of_filter test [] x i = absurd i
 of_filter {A} test (y ∷ ys) x i = by_test (test y) (λ t. here t (rw t at i) (of_filter test ys x)) (λ t. there (of_filter test ys x (rw t at i)))
   where
@@ -86,6 +86,7 @@ of_filter {A} test (y ∷ ys) x i = by_test (test y) (λ t. here t (rw t at i) (
 pub one_module_well_formed : (m : List ℕ) (cs : List Clause) (es : List Entry) → ((c : Clause) → IsIn c cs → IsWellFormedClause c) → ((e : Entry) → IsIn e es → IsWellFormedEntry e) → IsWellFormed (one_module m cs es)
 one_module_well_formed m cs es good known =
     record {
+      names = λ p c i. ap (λ (k : PredKey). k.name) (same_pred-true (pred_of m c) p (member p c i).1);
       arities = λ p c i. ap (λ (k : PredKey). k.arity) (same_pred-true (pred_of m c) p (member p c i).1);
       clauses = λ p c i. good c (member p c i).0;
       entries = λ e i. known e (subst (λ (xs : List Entry). IsIn e xs) (entries_of-one_module m cs es) i);

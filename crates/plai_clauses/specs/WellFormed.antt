@@ -30,7 +30,9 @@ pub record IsWellFormedEntry (entry : Entry) : Type 0 where
   pub few : entry.pred.arity ≤ most_arguments
   pub pre : All (speaks_within entry.pred.arity) entry.pre
 
+-- Each clause is of its predicate, and clauses and entries are well formed.
 pub record IsWellFormed (program : ProgramView) : Type 0 where
+  pub names : (pred : PredKey) (clause : Clause) → IsIn clause (clauses_of program pred) → clause.name ≡ pred.name
   pub arities : (pred : PredKey) (clause : Clause) → IsIn clause (clauses_of program pred) → length clause.head ≡ pred.arity
   pub clauses : (pred : PredKey) (clause : Clause) → IsIn clause (clauses_of program pred) → IsWellFormedClause clause
   pub entries : (entry : Entry) → IsIn entry (entries_of program) → IsWellFormedEntry entry

@@ -1,5 +1,5 @@
 -- Tuples of terms and their properties, instances of clauses, and what the actions of builtins allow (Muthukumar and Hermenegildo 1992).
-use Rattle.std.specs.Prelude.{◌≡◌, ℕ, suc, ◌-◌, ◌≤◌, ℤ, Bool, true, ◌&&◌, All, List, [], ◌∷◌, slice_index_or}
+use Rattle.std.specs.Prelude.{◌≡◌, ℕ, suc, ◌-◌, ◌^◌, ◌<◌, ◌≤◌, ℤ, Bool, true, ◌&&◌, All, List, [], ◌∷◌, slice_index_or}
 use Rattle.plai_terms.specs.declared.term.Term.{Term, Var, Int}
 use Rattle.plai_terms.specs.declared.prop.Prop.{Prop}
 use Rattle.plai_terms.specs.declared.prop.Prop.TheVariants as property
@@ -60,7 +60,7 @@ acts_within m (action.Ground i) = (1 ≤ i) × (i ≤ m)
 acts_within m (action.BindInt i) = (1 ≤ i) × (i ≤ m)
 acts_within m (action.Var i) = (1 ≤ i) × (i ≤ m)
 acts_within m (action.Nonvar i) = (1 ≤ i) × (i ≤ m)
-acts_within m (action.Havoc slots) = Unit {0}
+acts_within m (action.Havoc slots) = slots < 2 ^ m
 
 -- the action allows the substitution at these arguments
 abbrev pub allows_at : List Term → List (ℕ × Term) → Action → Type 0

@@ -1,5 +1,5 @@
 -- The laws of an abstract domain on plain values. The fixpoint needs them: order, monotone operations, a rank.
-use Rattle.std.specs.Prelude.{◌≡◌, ◌≢◌, ℕ, ◌<◌, ◌≤◌, All, List, length, Option}
+use Rattle.std.specs.Prelude.{◌≡◌, ◌≢◌, ℕ, ◌<◌, ◌≤◌, All, List, length}
 use Rattle.plai_terms.specs.declared.term.Term.{Term}
 use Rattle.plai_terms.specs.declared.prop.Prop.{Prop}
 use Rattle.plai_terms.specs.declared.abs.Abs.{Abs}
@@ -7,7 +7,7 @@ use Rattle.plai_domain.specs.declared.action.Action.{Action}
 use Rattle.plai_domain.specs.Plain.{StateView, PlainDomain, UpTo}
 use Rattle.plai_domain.specs.Instances.{speaks_within, acts_within}
 use Rattle.plai_domain.specs.Conditions.{most_arguments, IsHead, AreArguments}
-use Rattle.plai_domain.specs.Outcomes.{IsOver}
+use Rattle.plai_domain.specs.Outcomes.{SomeTooLarge}
 
 -- The order is one, both its sides are values, a join is the least of the values above both, and properties give a value.
 pub record IsOrdered (p : PlainDomain) : Type 0 where
@@ -42,14 +42,14 @@ pub record IsRanked (p : PlainDomain) : Type 0 where
 -- Formed sets grow: where one is too large from a smaller value or state, one is from a larger.
 pub record FormsMore (p : PlainDomain) : Type 0 where
   pub enter : (n v : ℕ) (head : List Term) (a b : Abs) → IsHead n v head → p.Leq n a b
-      → IsOver (p.enter a head v).sizes → IsOver (p.enter b head v).sizes
+      → SomeTooLarge (p.enter a head v).sizes → SomeTooLarge (p.enter b head v).sizes
   pub call : (n v : ℕ) (args : List Term) (s t : StateView) → AreArguments n v args → p.Below n v s t
-      → IsOver (p.call s args).sizes → IsOver (p.call t args).sizes
+      → SomeTooLarge (p.call s args).sizes → SomeTooLarge (p.call t args).sizes
   pub back : (n v : ℕ) (args : List Term) (s t : StateView) (a b : Abs) → AreArguments n v args → p.Below n v s t
-      → p.Leq (length args) a b → IsOver (p.back s args a).sizes → IsOver (p.back t args b).sizes
+      → p.Leq (length args) a b → SomeTooLarge (p.back s args a).sizes → SomeTooLarge (p.back t args b).sizes
   pub refine : (n v : ℕ) (args : List Term) (action : Action) (s t : StateView) → AreArguments n v args
       → acts_within (length args) action → p.Below n v s t
-      → IsOver (p.refine s args action).sizes → IsOver (p.refine t args action).sizes
+      → SomeTooLarge (p.refine s args action).sizes → SomeTooLarge (p.refine t args action).sizes
 
 -- what every domain owes
 pub record IsLawful (p : PlainDomain) : Type 0 where

@@ -18,8 +18,8 @@ abbrev pub too_large : List ℕ → Option ℕ
 too_large sizes = too_large_from 1 sizes
 
 -- some set is too large
-abbrev pub IsOver : List ℕ → Type 0
-IsOver sizes = IsSome (too_large sizes)
+abbrev pub SomeTooLarge : List ℕ → Type 0
+SomeTooLarge sizes = IsSome (too_large sizes)
 
 -- An answer gives what the plain operation gives, and no set was too large; `Over` names the first set that was.
 -- Want of memory is free.

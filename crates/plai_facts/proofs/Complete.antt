@@ -1,11 +1,11 @@
 -- The tokens of a term are read as that term, and those of a file as its facts.
-use Rattle.std.proofs.Common.{◌≡◌, ℕ, ℤ, suc, ◌+◌, ◌≤◌, ◌<◌, Bool, true, false, ◌&&◌, cond, List, [], ◌∷◌, ◌++◌, map, length, max, fold, refl, ap, sym, ◌∙◌, subst, append_assoc, arith, rules, length-append}
+use Rattle.std.proofs.Common.{◌≡◌, ℕ, suc, ◌+◌, ◌≤◌, Bool, true, ◌&&◌, cond, List, [], ◌∷◌, ◌++◌, map, length, max, fold, refl, ap, sym, ◌∙◌, append_assoc, arith, length-append}
 use Rattle.std.specs.Prelude.{nat_le, nat_lt, Option, Some, None, option_map, option_and_then}
 use Rattle.std.specs.List.{list_all, AllByRecursion}
 use Rattle.std.proofs.lemmas.Bool.Decides.{nat_tests}
 use Rattle.std.proofs.Math.ListN.{length-map}
 use Rattle.plai_terms.specs.Term.{depth_of}
-use Rattle.plai_terms.specs.declared.term.Term.{Term, Var, Int, Atom, Compound}
+use Rattle.plai_terms.specs.declared.term.Term.{Term, Compound}
 use Rattle.plai_terms.proofs.Terms.{induction}
 use Rattle.plai_facts.specs.declared.facts.Facts.{Facts}
 use Rattle.plai_facts.specs.declared.frame.Frame.{Frame}
@@ -13,8 +13,8 @@ use Rattle.plai_facts.specs.declared.token.Token.{Token}
 use Rattle.plai_facts.specs.declared.token.Token.TheVariants as token
 use Rattle.plai_facts.specs.Written.{written, closed, all_written, is_narrow, is_within}
 use Rattle.plai_facts.specs.Program.{with_term, facts_from}
-use Rattle.plai_facts.specs.Machine.{Reading, reading, run}
-use Rattle.plai_facts.proofs.Words.{both, depth_of-Var, depth_of-Compound, depth_of-above, written-Var, written-Int, written-Atom, written-Compound, is_narrow-Compound, fold-max-above}
+use Rattle.plai_facts.specs.Machine.{reading, run}
+use Rattle.plai_facts.proofs.Words.{both, depth_of-Compound, depth_of-above, written-Var, written-Int, written-Atom, written-Compound, is_narrow-Compound, fold-max-above}
 
 abbrev pub frame : List ℕ → List Term → Frame
 frame name args = record { name = name; args = args }

@@ -1,5 +1,5 @@
 -- What is read was written: tokens that are read args facts are those of terms that say these facts.
-use Rattle.std.proofs.Common.{◌≡◌, ℕ, ℤ, suc, ◌+◌, ◌≤◌, ◌<◌, Bool, true, false, ◌&&◌, cond, List, [], ◌∷◌, ◌++◌, map, length, max, fold, refl, ap, sym, ◌∙◌, subst, append_assoc, arith, rules, length-append}
+use Rattle.std.proofs.Common.{◌≡◌, ℕ, suc, ◌+◌, ◌≤◌, ◌<◌, Bool, true, false, ◌&&◌, cond, List, [], ◌∷◌, ◌++◌, map, length, max, fold, refl, ap, sym, ◌∙◌, append_assoc, arith, length-append}
 use Rattle.std.specs.Prelude.{nat_le, nat_lt, Option, Some, None, option_map, option_and_then}
 use Rattle.std.specs.List.{list_all}
 use Rattle.std.proofs.lemmas.Bool.Decides.{nat_tests}
@@ -12,7 +12,7 @@ use Rattle.plai_facts.specs.declared.token.Token.{Token}
 use Rattle.plai_facts.specs.declared.token.Token.TheVariants as token
 use Rattle.plai_facts.specs.Written.{written, closed, all_written, is_narrow, is_within}
 use Rattle.plai_facts.specs.Program.{with_term, facts_from}
-use Rattle.plai_facts.specs.Machine.{Reading, reading, with_argument, run}
+use Rattle.plai_facts.specs.Machine.{Reading, reading, run}
 use Rattle.plai_facts.proofs.Words.{depth_of-Var, depth_of-Int, depth_of-Atom, depth_of-Compound, written-Var, written-Int, written-Atom, written-Compound, is_narrow-Var, is_narrow-Int, is_narrow-Atom, is_narrow-Compound}
 use Rattle.plai_facts.proofs.Complete.{frame, after_end}
 

@@ -1,6 +1,6 @@
 -- The value of digits.
-use Rattle.std.proofs.Common.{◌≡◌, ℕ, ◌+◌, ◌-◌, ◌*◌, ◌^◌, ◌≤◌, ◌<◌, Bool, true, false, cond, suc, List, [], ◌∷◌, length, drop, get_or, drop-cons, refl, ap, sym, ◌∙◌, arith}
-use Rattle.std.specs.Prelude.{Option, Some, None, nat_lt}
+use Rattle.std.proofs.Common.{◌≡◌, ℕ, ◌+◌, ◌-◌, ◌*◌, ◌^◌, ◌≤◌, ◌<◌, false, cond, suc, List, [], ◌∷◌, length, drop, get_or, drop-cons, ap, arith}
+use Rattle.std.specs.Prelude.{Some, None, nat_lt}
 use Rattle.std.proofs.lemmas.Bool.Decides.{nat_tests}
 use Rattle.plai_facts.specs.Tokens.{value_from, integer_of}
 

@@ -1,12 +1,11 @@
 -- The words on terms at each kind of term.
-use Rattle.std.proofs.Common.{◌≡◌, ℕ, ℤ, ◌+◌, ◌≤◌, ◌<◌, Bool, true, false, ◌&&◌, List, [], ◌∷◌, map, length, max, fold, refl, subst, sym, arith, rules}
-use Rattle.std.specs.Prelude.{nat_le, nat_lt}
-use Rattle.std.specs.List.{list_all, AllByRecursion}
+use Rattle.std.proofs.Common.{◌≡◌, ℕ, ℤ, ◌+◌, ◌≤◌, Bool, true, false, ◌&&◌, List, [], ◌∷◌, map, length, max, fold, refl, arith, rules}
+use Rattle.std.specs.Prelude.{nat_le}
+use Rattle.std.specs.List.{list_all}
 use Rattle.plai_terms.specs.Term.{depth_of}
 use Rattle.plai_terms.specs.declared.term.Term.{Term, Var, Int, Atom, Compound, the_lemmas}
 use Rattle.plai_terms.proofs.Terms.{induction}
 use Rattle.plai_facts.specs.declared.token.Token.TheVariants as token
-use Rattle.plai_facts.specs.declared.token.Token.{Token}
 use Rattle.plai_facts.specs.Written.{written, closed, is_narrow}
 
 pub both : (p q : Bool) → (p && q) ≡ true → (p ≡ true) × (q ≡ true)

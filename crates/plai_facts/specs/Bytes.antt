@@ -2,7 +2,7 @@
 use Rattle.std.specs.Prelude.{ℕ, Bool, ◌&&◌, ◌||◌, nat_le, nat_eq, codes}
 use Rattle.std.specs.List.{list_any}
 use Rattle.plai_facts.specs.declared.class.Class.{Class}
-use Rattle.plai_facts.specs.declared.class.Class.TheVariants.{Word, Digit, Symbol}
+use Rattle.plai_facts.specs.declared.class.Class.TheVariants.{Word, Digit, Symbol, Layout}
 
 abbrev pub is_lower : ℕ → Bool
 is_lower b = nat_le 97 b && nat_le b 122
@@ -27,3 +27,4 @@ abbrev pub in_class : Class → ℕ → Bool
 in_class Word = is_word
 in_class Digit = is_digit
 in_class Symbol = is_symbol
+in_class Layout = is_layout

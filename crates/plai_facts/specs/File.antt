@@ -1,10 +1,9 @@
 -- The form of a file of facts: a text is of the form where it has tokens that are those of terms, none too large,
 -- and the terms are a module's.
-use Rattle.std.specs.Prelude.{◌≡◌, ℕ, IsTrue, Option, Some, List}
+use Rattle.std.specs.Prelude.{◌≡◌, ℕ, IsTrue, Some, List}
 use Rattle.std.specs.List.{list_all}
 use Rattle.plai_terms.specs.declared.term.Term.{Term}
 use Rattle.plai_facts.specs.declared.facts.Facts.{Facts}
-use Rattle.plai_facts.specs.declared.token.Token.{Token}
 use Rattle.plai_facts.specs.Tokens.{tokens_of}
 use Rattle.plai_facts.specs.Written.{all_written, is_within}
 use Rattle.plai_facts.specs.Program.{facts_of}

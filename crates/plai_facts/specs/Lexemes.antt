@@ -2,7 +2,7 @@
 use Rattle.std.specs.Prelude.{ℕ, ◌+◌, Bool, true, false, cond, ◌&&◌, ◌||◌, nat_eq, Option, Some, None, List, [], ◌∷◌, drop}
 use Rattle.std.specs.List.{prefix_len}
 use Rattle.plai_facts.specs.declared.lexeme.Lexeme.{Lexeme}
-use Rattle.plai_facts.specs.declared.lexeme.Lexeme.TheVariants.{Name, Functor, Variable, Integer, Close, Comma, End}
+use Rattle.plai_facts.specs.declared.lexeme.Lexeme.TheVariants.{Name, Functor, Variable, Integer, EmptyList, Close, Comma, End}
 use Rattle.plai_facts.specs.declared.lexeme.Found.{Found}
 use Rattle.plai_facts.specs.Bytes.{is_lower, is_upper, is_digit, is_word, is_symbol, is_layout}
 
@@ -29,11 +29,15 @@ run_of b more bs =
     cond (nat_eq b 46 && nat_eq more 0 && ends bs) (single End)
     (cond (nat_eq b 47 && begins_with 42 bs) None (name_of more bs))
 
--- brackets, the comma, `!`, `;` and `[]`
+-- `[]`, with layout between the brackets or without: the atom of that name
+abbrev pub empty_of : ℕ → List ℕ → Option Found
+empty_of layout bs = cond (begins_with 93 (drop layout bs)) (Some (record { lexeme = EmptyList; more = layout + 1 })) None
+
+-- the closing bracket, the comma, `!`, `;` and `[]`
 abbrev pub solo_of : ℕ → List ℕ → Option Found
 solo_of b bs =
     cond (nat_eq b 41) (single Close) (cond (nat_eq b 44) (single Comma) (cond (nat_eq b 33 || nat_eq b 59) (name_of 0 bs)
-    (cond (nat_eq b 91 && begins_with 93 bs) (Some (record { lexeme = Name; more = 1 })) None)))
+    (cond (nat_eq b 91) (empty_of (prefix_len is_layout bs) bs) None)))
 
 -- the token that begins with the byte `b`, before the bytes `bs`
 abbrev pub lexeme_of : ℕ → List ℕ → Option Found

@@ -6,3 +6,4 @@ pub mod Program
 pub mod File
 pub mod Machine
 pub mod Outcomes
+pub mod WellFormed

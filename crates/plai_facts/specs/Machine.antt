@@ -1,9 +1,10 @@
 -- One pass over tokens: what each token does to the open compounds, the last one first, and to the term that was read
 -- last. Only contracts of private functions cite it; that it gives the form of a file is proved.
-use Rattle.std.specs.Prelude.{ℕ, Bool, cond, nat_lt, Option, Some, None, option_map, option_and_then, length, List, [], ◌∷◌, ◌++◌, drop}
+use Rattle.std.specs.Prelude.{ℕ, cond, nat_lt, Option, Some, None, option_map, option_and_then, length, List, [], ◌∷◌, ◌++◌, drop}
 use Rattle.plai_terms.specs.declared.term.Term.{Term, Var, Int, Atom, Compound}
 use Rattle.plai_facts.specs.declared.facts.Facts.{Facts}
 use Rattle.plai_facts.specs.declared.frame.Frame.{Frame}
+use Rattle.plai_facts.specs.declared.lexeme.Found.{Found}
 use Rattle.plai_facts.specs.declared.token.Token.{Token}
 use Rattle.plai_facts.specs.declared.token.Token.TheVariants as token
 use Rattle.plai_facts.specs.Bytes.{is_layout}
@@ -66,19 +67,37 @@ run r (t ∷ ts) = option_and_then (λ s. run s ts) (performed t r)
 abbrev pub start : Reading
 start = reading [] None None
 
--- a place in a text: the names of the variables so far in a term, what was read, and the rest
+-- a token, the names of the variables so far in its term, and the text behind it
+pub record Lexed : Type 0 where
+  pub token : Token
+  pub names : List (List ℕ)
+  pub rest : List ℕ
+
+abbrev pub lexed_as : List (List ℕ) → ℕ → List ℕ → Found → Option Lexed
+lexed_as names b bs found = option_map (λ t. record { token = t; names = names_behind names found.lexeme (text_at b bs found); rest = drop (rest_of found) bs })
+    (token_of names found.lexeme (text_at b bs found))
+
+abbrev pub lexed : List (List ℕ) → List ℕ → Option Lexed
+lexed names [] = None
+lexed names (b ∷ bs) = option_and_then (lexed_as names b bs) (lexeme_of b bs)
+
+-- a place in a text: the names, what was read, and the rest
 pub record Place : Type 0 where
   pub names : List (List ℕ)
   pub reading : Reading
   pub rest : List ℕ
 
--- the place behind a token or a byte of layout
-abbrev pub place_behind : List (List ℕ) → Reading → ℕ → List ℕ → Option Place
-place_behind names r b bs = cond (is_layout b)
-    (Some (record { names = names; reading = r; rest = bs }))
-    (option_and_then (λ found. option_and_then (λ t. option_map (λ s.
-    record { names = names_behind names found.lexeme (text_at b bs found); reading = s; rest = drop (rest_of found) bs })
-    (performed t r)) (token_of names found.lexeme (text_at b bs found))) (lexeme_of b bs))
+-- the place behind a token
+abbrev pub place_with : Reading → Lexed → Option Place
+place_with r l = option_map (λ s. record { names = l.names; reading = s; rest = l.rest }) (performed l.token r)
+
+abbrev pub place_behind : List (List ℕ) → Reading → List ℕ → Option Place
+place_behind names r text = option_and_then (place_with r) (lexed names text)
+
+-- the place behind the first token or byte of layout of a text
+abbrev pub advanced : List (List ℕ) → Reading → List ℕ → Option Place
+advanced names r [] = None
+advanced names r (b ∷ bs) = cond (is_layout b) (Some (record { names = names; reading = r; rest = bs })) (place_behind names r (b ∷ bs))
 
 -- what the rest of a text gives
 abbrev pub given : List (List ℕ) → Reading → List ℕ → Option Facts

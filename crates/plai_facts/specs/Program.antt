@@ -1,6 +1,6 @@
 -- What the terms of a file say: the directive `module`, entries and facts (ISO/IEC 13211-1:1995, 6.2.1 and 7.4, for
 -- clauses and directives; the directives themselves are this project's).
-use Rattle.std.specs.Prelude.{ℕ, suc, ◌+◌, Bool, true, false, cond, not, ◌&&◌, nat_eq, nat_lt, nat_le, Option, Some, None, option_map, option_and_then, length, List, [], ◌∷◌, ◌++◌, codes, max, fold}
+use Rattle.std.specs.Prelude.{ℕ, ◌+◌, Bool, true, false, cond, not, ◌&&◌, nat_eq, nat_lt, nat_le, Option, Some, None, option_map, option_and_then, length, List, [], ◌∷◌, ◌++◌, codes, max, fold}
 use Rattle.std.specs.Cmp.Lexicographic.{pointwise}
 use Rattle.plai_terms.specs.declared.term.Term.{Term, fold-Term, out-Term}
 use Rattle.plai_terms.specs.declared.term.Term.TheOpen.{Term-F}
@@ -90,8 +90,11 @@ abbrev pub goal_of : Term → Option Goal
 goal_of t = goal_in (out-Term t)
 
 -- the goal and the variable of `:(G,ground(V))`
+abbrev pub ground_variable : Term → Option ℕ
+ground_variable t = option_and_then variable_of (one_argument (codes "ground") t)
+
 abbrev pub ground_in : Term × Term → Option (Term × ℕ)
-ground_in p = option_map (λ v. (p.0, v)) (option_and_then variable_of (one_argument (codes "ground") p.1))
+ground_in p = option_map (λ v. (p.0, v)) (ground_variable p.1)
 
 abbrev pub ground_of : Term → Option (Term × ℕ)
 ground_of t = option_and_then ground_in (two_arguments (codes ":") t)
@@ -128,18 +131,24 @@ fact name head variables = record { name = name; head = head; variables = variab
 abbrev pub is_head : List ℕ → ℕ → Bool
 is_head name arity = is_definable name arity && not (is_key name arity (codes "-->", 2))
 
+abbrev pub compound_fact : List ℕ → List Term → ℕ → Option Clause
+compound_fact name args width = cond (is_head name (length args) && nat_le (length args + width) 64) (Some (fact name args width)) None
+
 abbrev pub fact_in : ℕ → Term-F Term → Option Clause
 fact_in width (Term-F.Atom a) = cond (is_head a 0) (Some (fact a [] 0)) None
-fact_in width (Term-F.Compound name args) = cond (is_head name (length args) && nat_le (length args + width) 64) (Some (fact name args width)) None
+fact_in width (Term-F.Compound name args) = compound_fact name args width
 fact_in width _ = None
 
 abbrev pub fact_of : Term → Option Clause
 fact_of t = fact_in (width_of t) (out-Term t)
 
 -- a term behind the first one: an entry where it is `:-` with one argument, else a fact
+abbrev pub declared : List ℕ → Term → Option Entry
+declared m d = option_and_then (entry_of m) (one_argument (codes "entry") d)
+
 abbrev pub item_from : List ℕ → Term → Option Term → Option Item
 item_from m t None = option_map item.Fact (fact_of t)
-item_from m t (Some d) = option_and_then (λ g. option_map item.Entry (entry_of m g)) (one_argument (codes "entry") d)
+item_from m t (Some d) = option_map item.Entry (declared m d)
 
 abbrev pub item_of : List ℕ → Term → Option Item
 item_of m t = item_from m t (one_argument (codes ":-") t)

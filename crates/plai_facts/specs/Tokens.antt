@@ -43,6 +43,7 @@ token_of names lexeme.Name text = Some (token.Name text)
 token_of names lexeme.Functor text = Some (token.Functor text)
 token_of names lexeme.Variable text = option_map token.Variable (variable_of (number_of names text))
 token_of names lexeme.Integer text = option_map (λ n. token.Integer (pos n)) (integer_of (value_from 0 text))
+token_of names lexeme.EmptyList text = Some (token.Name (codes "[]"))
 token_of names lexeme.Close text = Some token.Close
 token_of names lexeme.Comma text = Some token.Comma
 token_of names lexeme.End text = Some token.End

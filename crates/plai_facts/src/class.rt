@@ -45,6 +45,7 @@ pub enum Class {
     Word,
     Digit,
     Symbol,
+    Layout,
 }
 
 impl Class {
@@ -55,6 +56,7 @@ impl Class {
             Class::Word => is_word(byte),
             Class::Digit => is_digit(byte),
             Class::Symbol => is_symbol(byte),
+            Class::Layout => is_layout(byte),
         }
     }
 }

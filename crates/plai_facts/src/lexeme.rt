@@ -2,7 +2,7 @@
 ghost use Rattle.std.specs.Prelude.{◌≡◌, ◌≤◌, ◌<◌, ◌^◌, length, IfSome};
 ghost use Rattle.std.specs.List.{prefix_len};
 ghost use Rattle.plai_facts.specs.Bytes.{in_class};
-ghost use Rattle.plai_facts.specs.Lexemes.{ends, begins_with, single, name_of, run_of, solo_of, lexeme_of, bracket_of, rest_of};
+ghost use Rattle.plai_facts.specs.Lexemes.{ends, begins_with, single, name_of, run_of, empty_of, solo_of, lexeme_of, bracket_of, rest_of};
 
 use crate::class::{Class, is_digit, is_layout, is_lower, is_symbol, is_upper};
 
@@ -14,6 +14,8 @@ pub enum Lexeme {
     Functor,
     Variable,
     Integer,
+    /// `[]`, the atom of that name.
+    EmptyList,
     Close,
     Comma,
     End,
@@ -108,6 +110,22 @@ fn symbols(byte: u8, more: usize, rest: &[u8]) -> Option<Found>
     }
 }
 
+/// The end of `[]` behind layout of this length.
+fn empty_list(layout: usize, rest: &[u8]) -> Option<Found>
+    requires { layout ≤ length rest.now }
+    ensures value { result ≡ empty_of layout rest.now }
+    ensures within { IfSome result (λ found. rest_of found ≤ length rest.now) }
+{
+    if begins_with(b']', &rest[layout..]) {
+        Some(Found {
+            lexeme: Lexeme::EmptyList,
+            more: layout + 1,
+        })
+    } else {
+        None
+    }
+}
+
 fn solo(byte: u8, rest: &[u8]) -> Option<Found>
     ensures value { result ≡ solo_of byte rest.now }
     ensures within { IfSome result (λ found. rest_of found ≤ length rest.now) }
@@ -118,11 +136,8 @@ fn solo(byte: u8, rest: &[u8]) -> Option<Found>
         single(Lexeme::Comma)
     } else if byte == b'!' || byte == b';' {
         name(0, rest)
-    } else if byte == b'[' && begins_with(b']', rest) {
-        Some(Found {
-            lexeme: Lexeme::Name,
-            more: 1,
-        })
+    } else if byte == b'[' {
+        empty_list(run(rest, Class::Layout), rest)
     } else {
         None
     }

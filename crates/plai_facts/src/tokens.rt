@@ -120,6 +120,7 @@ pub fn read_token(
         Lexeme::Functor => Ok(Token::Functor(copy_name(alloc, text)?)),
         Lexeme::Variable => variable_token(alloc, names, text),
         Lexeme::Integer => integer_token(text),
+        Lexeme::EmptyList => Ok(Token::Name(copy_name(alloc, b"[]")?)),
         Lexeme::Close => Ok(Token::Close),
         Lexeme::Comma => Ok(Token::Comma),
         Lexeme::End => {

@@ -10,7 +10,7 @@ use Rattle.plai_reader.specs.Variables.{no_variables, after_token, after_tokens}
 use Rattle.plai_reader.specs.Roles.{is_end}
 use Rattle.plai_reader.specs.Reading.{State, start, last, stepped, run, read_of}
 use Rattle.plai_reader.specs.Limits.{kept_trees}
-use Rattle.plai_reader.specs.States.{IsWritten}
+use Rattle.plai_lex.specs.Tokens.{IsWritten}
 use Rattle.plai_reader.proofs.Numbers.{after_token-grows}
 use Rattle.plai_reader.proofs.Readings.{read-is}
 use Rattle.plai_reader.proofs.Runs.{VariablesAre, stepped-variables}

@@ -1,5 +1,5 @@
 -- Terms as they are read: what every later stage may rely on.
-use Rattle.std.specs.Prelude.{◌≡◌, ℕ, ◌<◌, ◌^◌, Bool, true, false, ◌||◌, nat_lt, length}
+use Rattle.std.specs.Prelude.{◌≡◌, ◌<◌, ◌^◌, Bool, true, false, ◌||◌, nat_lt, length}
 use Rattle.std.specs.List.{list_any}
 use Rattle.plai_terms.specs.declared.read_term.ReadTerm.{ReadTerm}
 use Rattle.plai_terms.specs.declared.term.Term.{Term, fold-Term}

@@ -1,10 +1,7 @@
 -- What the reader's values stand for, and what its steps return.
 use Rattle.std.specs.Prelude.{◌≡◌, ℕ, Option, Some, None, Result, Ok, Err, List, map, reverse}
-use Rattle.std.specs.Int.{IsNonNegative}
 use Rattle.std.proofs.Common.{Vec, Global}
 use Rattle.plai_terms.specs.declared.read_term.ReadTerm.{ReadTerm}
-use Rattle.plai_lex.specs.declared.token.TokenKind.{TokenKind}
-use Rattle.plai_lex.specs.declared.token.TokenKind.TheVariants as token
 use Rattle.plai_reader.specs.declared.stop.Stop.{Stop}
 use Rattle.plai_reader.specs.declared.stop.Stop.TheVariants as stop
 use Rattle.plai_reader.specs.declared.fail.ReadTermFail.{ReadTermFail}
@@ -42,11 +39,6 @@ abbrev pub Lists : {A : Type 0} → List A → Result (Vec A Global) Stop → Ty
 Lists items (Ok v) = v.items ≡ items
 Lists items (Err stop.Syntax) = ⊥
 Lists items (Err stop.Memory) = Unit {0}
-
--- an integer token is at least 0
-abbrev pub IsWritten : TokenKind → Type 0
-IsWritten (token.Int n) = IsNonNegative n
-IsWritten _ = Unit {0}
 
 -- the tree of a term and its number of variables
 abbrev pub Reads : Option Tree → ℕ → Result Read Stop → Type 0

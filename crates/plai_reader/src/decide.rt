@@ -3,7 +3,8 @@ ghost use Rattle.std.specs.Prelude.{◌≡◌};
 ghost use Rattle.std.specs.Int.{IsNonNegative};
 ghost use Rattle.plai_reader.specs.Climb.{Gives};
 ghost use Rattle.plai_reader.specs.Roles.{signed, bracketed, nil, is_open, is_close_list, is_integer, is_end, is_edge, next_is, tight_next, is_infix_or_postfix, name_starts, starts, starts_next, is_minus, operator, named, functor_or_name, at_nil, where_wanted, operating, at_comma, at_bar, at_close, at_close_list, where_operating, decided};
-ghost use Rattle.plai_reader.specs.States.{Makes, IsWritten};
+ghost use Rattle.plai_lex.specs.Tokens.{IsWritten};
+ghost use Rattle.plai_reader.specs.States.{Makes};
 
 use crate::operator::{Class, Definition, Operator};
 use crate::state::{Action, Bracket, Leaf, Mode, Pending};

@@ -20,3 +20,6 @@ pub use fail::{OpFail, ReadTermFail};
 pub use operator::OpKind;
 pub use read::read_term;
 pub use table::OpTable;
+
+#[cfg(test)]
+mod tests;

@@ -4,7 +4,8 @@ ghost use Rattle.plai_reader.specs.Climb.{climbing, Gives};
 ghost use Rattle.plai_reader.specs.Readable.{IsReadable};
 ghost use Rattle.plai_reader.specs.Limits.{kept_trees, answer_of};
 ghost use Rattle.plai_reader.specs.Reading.{start, behind, stepped, last, read_of};
-ghost use Rattle.plai_reader.specs.States.{state_of, Steps, Reads, IsWritten, IsAnswer};
+ghost use Rattle.plai_lex.specs.Tokens.{IsWritten};
+ghost use Rattle.plai_reader.specs.States.{state_of, Steps, Reads, IsAnswer};
 ghost use Rattle.plai_reader.specs.Variables.{variables_of};
 
 use crate::build::{limit, take_item};

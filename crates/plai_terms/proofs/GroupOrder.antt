@@ -12,7 +12,7 @@ use Rattle.std.proofs.lemmas.List.Sorted.{IsPermutation-map, sum_by-IsPermutatio
 use Rattle.plai_base.proofs.Sets.{by_test}
 use Rattle.plai_terms.specs.Groups.{placed, ordered}
 use Rattle.plai_terms.proofs.Same.{names_equal}
-use Rattle.plai_terms.proofs.Sorted.{IsUp, once, up_from_sorted, same_up}
+use Rattle.plai_terms.proofs.Sorted.{IsUp, once, up_from_sorted, same_up, up_map}
 
 abbrev R : List ℕ → List ℕ → Ordering
 R = slice_cmp nat_cmp
@@ -82,17 +82,9 @@ module _ {X : Type 0} (items : X → List ℕ) where
   pub sorted_is_ordered : (xs ys : List X) (zs : List (List ℕ)) → map items xs ≡ zs → IsPermutation xs ys → IsSorted (λ x y. R (items x) (items y)) ys → map items ys ≡ ordered zs
   sorted_is_ordered xs ys zs e p s =
       same_up R nat_list_cmp_total texts_tie (map items ys) (ordered zs)
-      (up_map ys (up_from_sorted (λ x y. R (items x) (items y)) (on_total items nat_list_cmp_total) ys s))
+      (up_map R items ys (up_from_sorted (λ x y. R (items x) (items y)) (on_total items nat_list_cmp_total) ys s))
       (up_ordered zs)
       (λ z.
       sum_by-IsPermutation (once R nat_list_cmp_total z) (map items xs) (map items ys) (IsPermutation-map items xs ys p)
       ∙ ap (sum_by (once R nat_list_cmp_total z)) e
       ∙ sym (sum_ordered (once R nat_list_cmp_total z) zs))
-    where
-      below_map : (x : X) (ys : List X) → AllByRecursion (λ y. is_gt (R (items x) (items y)) ≡ false) ys → AllByRecursion (λ y. is_gt (R (items x) y) ≡ false) (map items ys)
-      below_map x [] h = tt
-      below_map x (y ∷ ys) h = (h.0, below_map x ys h.1)
-
-      up_map : (ys : List X) → IsUp (λ x y. R (items x) (items y)) ys → IsUp R (map items ys)
-      up_map [] u = tt
-      up_map (y ∷ ys) u = (below_map y ys u.0, up_map ys u.1)

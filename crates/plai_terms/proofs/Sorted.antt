@@ -1,5 +1,5 @@
 -- Lists in an order: what a sort gives, and that there is one such list.
-use Rattle.std.proofs.Common.{◌≡◌, ℕ, suc, ◌<◌, ◌≤◌, false, cond, List, [], ◌∷◌, length, get_or, refl, sym, ap, ◌∙◌, arith, sum_by, IsPermutation, IsSorted}
+use Rattle.std.proofs.Common.{◌≡◌, ℕ, suc, ◌<◌, ◌≤◌, false, cond, List, [], ◌∷◌, map, length, get_or, refl, sym, ap, ◌∙◌, arith, sum_by, IsPermutation, IsSorted}
 use Rattle.std.specs.Cmp.{IsTotalOrder}
 use Rattle.std.specs.List.{AllByRecursion}
 use Rattle.std.specs.declared.cmp.Ordering.{Ordering}
@@ -90,3 +90,13 @@ module _ {X : Type 0} (R : X → X → Ordering) where
       -- two lists in order, one a permutation of the other, are equal
       pub same_permuted : (xs ys : List X) → IsUp xs → IsUp ys → IsPermutation xs ys → xs ≡ ys
       same_permuted xs ys u v p = same_up xs ys u v (λ x. sym (sum_by-IsPermutation (once x) xs ys p))
+
+-- the same of what a function makes of the items
+module _ {X Y : Type 0} (R : X → X → Ordering) (f : Y → X) where
+  all_map : (x : X) (ys : List Y) → AllByRecursion (λ y. is_gt (R x (f y)) ≡ false) ys → AllByRecursion (λ z. is_gt (R x z) ≡ false) (map f ys)
+  all_map x [] h = tt
+  all_map x (y ∷ ys) h = (h.0, all_map x ys h.1)
+
+  pub up_map : (ys : List Y) → IsUp (λ x y. R (f x) (f y)) ys → IsUp R (map f ys)
+  up_map [] u = tt
+  up_map (y ∷ ys) u = (all_map (f y) ys u.0, up_map ys u.1)

@@ -9,3 +9,4 @@ pub mod Pattern
 pub mod RowOrder
 pub mod Substitution
 pub mod Unification
+pub mod Rows

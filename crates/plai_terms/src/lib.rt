@@ -13,6 +13,7 @@ mod name;
 mod non_empty;
 mod outcome;
 mod pattern;
+mod plain_row;
 mod pred_key;
 mod print;
 mod prop;
@@ -31,6 +32,7 @@ pub use name::Name;
 pub use non_empty::NonEmpty;
 pub use outcome::Outcome;
 pub use pattern::print_abs;
+pub use plain_row::PlainRow;
 pub use pred_key::PredKey;
 pub use print::print_term;
 pub use prop::Prop;
@@ -39,3 +41,6 @@ pub use row_name::RowName;
 pub use skeleton::Skeleton;
 pub use subst::Subst;
 pub use term::{Args, Term};
+
+#[cfg(test)]
+mod tests;

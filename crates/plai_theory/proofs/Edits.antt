@@ -3,10 +3,10 @@ use Rattle.std.proofs.Common.{◌≡◌, ℕ, zero, suc, ◌≤◌, true, false,
 use Rattle.plai_theory.specs.Words.{IsIn, given, UpTo, item}
 use Rattle.plai_theory.specs.Domain.{Domain, Program, IsLawful}
 use Rattle.plai_theory.specs.Evaluation.{Source, NameOf, name_of, answer_of, calls_of}
-use Rattle.plai_theory.specs.Stages.{stage, Reaches, Entry, Called, IsFromBelow}
+use Rattle.plai_theory.specs.Stages.{stage, Reaches, AtEntry, ByCall, IsFromBelow}
 use Rattle.plai_theory.specs.LeastTable.{Row, Order, IsLeastTable, IsSnapshot, IsStrictOrder}
 use Rattle.plai_theory.specs.Tables.{source_of, HasName, IsClosed}
-use Rattle.plai_theory.specs.LegalWork.{live_count, WorkRow, find, present_source, IsLegalLog, after_all, IsEnd, IsOutcome, LogEntry}
+use Rattle.plai_theory.specs.LegalWork.{live_count, WorkRow, find, present_source, IsLegalLog, after_all, IsEnd, IsLogResult, LogEntry}
 use Rattle.plai_theory.specs.Edits.{Leads, Stay, Go, IsKept, IsOpening, IsQuiet}
 use Rattle.plai_theory.proofs.Eval.{Agree, same_answer, same_called, called_le, answer_le}
 use Rattle.plai_theory.proofs.Stages.{trans_at, stage_le, best_least, best_above, stage_below, reach_more}
@@ -102,14 +102,14 @@ module _ (d : Domain) (old : Program d) (new : Program d) (laws : IsLawful d old
       }
 
       reach : {k : ℕ} {x : NameOf d} → k ≤ N → Reaches d old (stage d old N) k x → Reaches d new (source_of d rows) k x
-      reach h (Entry {x = x} i) = Entry (subst (λ (es : List (NameOf d)). IsIn x es) (sym quiet.entries) i)
-      reach h (Called {n = k} {x = x} m c r i j) =
+      reach h (AtEntry {x = x} i) = AtEntry (subst (λ (es : List (NameOf d)). IsIn x es) (sym quiet.entries) i)
+      reach h (ByCall {n = k} {x = x} m c r i j) =
           let has : HasName d rows m = (least N (omega arith)).whole m (reach_more d old (stage d old N) N (omega arith) r) in
-          Called m c (reach (omega arith) r) (subst (λ (cs : List d.Clause). IsIn c cs) (sym (clauses_at m has)) i)
+          ByCall m c (reach (omega arith) r) (subst (λ (cs : List d.Clause). IsIn c cs) (sym (clauses_at m has)) i)
           (subst (λ (ns : List (NameOf d)). IsIn x ns)
           (sym (same_called d (source_of d rows) (stage d old N) c m.call (λ q u t.
           sym (stage_at d old laws before order rows N least N (omega arith) (name_of d q u)
-          ((least N (omega arith)).whole (name_of d q u) (reach_more d old (stage d old N) N h (Called m c r i t)))))))
+          ((least N (omega arith)).whole (name_of d q u) (reach_more d old (stage d old N) N h (ByCall m c r i t)))))))
           j)
 
   -- Work opened with the kept rows meets the invariant.
@@ -172,7 +172,7 @@ module _ (d : Domain) (old : Program d) (new : Program d) (laws : IsLawful d old
         }
 
     -- Theorem: every legal log that opens with the kept rows and ends has the new program's least table as its result.
-    pub opened_log_least : (limit : ℕ) (es : List (LogEntry d)) → IsLegalLog d new limit (record { rows = opened; last = None }) es → IsEnd d new (after_all d new (record { rows = opened; last = None }) es) → (result : List (Row d)) → IsOutcome d new before (after_all d new (record { rows = opened; last = None }) es) result → IsLeastTable d new before result
+    pub opened_log_least : (limit : ℕ) (es : List (LogEntry d)) → IsLegalLog d new limit (record { rows = opened; last = None }) es → IsEnd d new (after_all d new (record { rows = opened; last = None }) es) → (result : List (Row d)) → IsLogResult d new before (after_all d new (record { rows = opened; last = None }) es) result → IsLeastTable d new before result
     opened_log_least limit es legal end result =
         outcome_least d new laws' (after_all d new (record { rows = opened; last = None }) es)
         (log_keeps d new laws' limit (record { rows = opened; last = None }) es opened_inv legal) end before result

@@ -4,7 +4,7 @@ use Rattle.std.proofs.lemmas.Bool.Decides.{nat_tests}
 use Rattle.plai_theory.specs.Words.{IsIn, given, UpTo}
 use Rattle.plai_theory.specs.Domain.{Step, Goal, Domain, Program, IsLawful}
 use Rattle.plai_theory.specs.Evaluation.{NameOf, name_of, join_of, best_of, state_behind, calls_along, answer_of, calls_of}
-use Rattle.plai_theory.specs.Stages.{stage, Reaches, Entry, Called}
+use Rattle.plai_theory.specs.Stages.{stage, Reaches, AtEntry, ByCall}
 use Rattle.plai_theory.specs.LeastTable.{Row, IsLeastTable}
 use Rattle.plai_theory.specs.Tables.{source_of, HasName, IsClosed}
 use Rattle.plai_theory.specs.LegalWork.{WorkRow, Made, Evaluated, Grew, present_source, next_answer, no_work, IsLegalLog, after_all, LogEntry}
@@ -128,7 +128,7 @@ least =
     closed_is_least one program lawful table closed (λ x y. x.pred < y.pred)
     (before_second, ((λ q i. absurd i), tt))
     (2, λ p v is. below_at one program lawful table 2 (at_rows (λ r. UpTo (one.leq r.name.pred) r.answer (stage one program 2 r.name.pred r.name.call)) tt tt) p v)
-    (at_rows (λ r. (k : ℕ) × Reaches one program (source_of one table) k r.name) (0, Entry (inl refl)) (1, Called first.name 0 (Entry (inl refl)) (inl refl) (inl refl)))
+    (at_rows (λ r. (k : ℕ) × Reaches one program (source_of one table) k r.name) (0, AtEntry (inl refl)) (1, ByCall first.name 0 (AtEntry (inl refl)) (inl refl) (inl refl)))
   where
     before_second : (q : Row one) → IsIn q (second ∷ []) → 0 < q.name.pred
     before_second q (inl e) = let k : 1 ≡ q.name.pred = ap (λ (r : Row one). r.name.pred) e in omega arith

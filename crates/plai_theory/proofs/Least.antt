@@ -3,7 +3,7 @@ use Rattle.std.proofs.Common.{◌≡◌, ℕ, zero, suc, ◌+◌, ◌≤◌, Lis
 use Rattle.plai_theory.specs.Words.{IsIn}
 use Rattle.plai_theory.specs.Domain.{Domain, Program, IsLawful}
 use Rattle.plai_theory.specs.Evaluation.{Source, NameOf, name_of, calls_of}
-use Rattle.plai_theory.specs.Stages.{stage, Reaches, Entry, Called, IsFromBelow, IsSettled}
+use Rattle.plai_theory.specs.Stages.{stage, Reaches, AtEntry, ByCall, IsFromBelow, IsSettled}
 use Rattle.plai_theory.specs.LeastTable.{Row, Order, IsLeastTable, IsTableOf}
 use Rattle.plai_theory.proofs.Stages.{trans_at, antisym_at, stage_le, stage_below, reach_below, reach_to, reach_from, reach_more, IsClosedAt}
 
@@ -11,14 +11,14 @@ abbrev pub IsReached : (d : Domain) → Program d → Source d → d.Pred → d.
 IsReached d g s p v = (k : ℕ) × Reaches d g s k (name_of d p v)
 
 pub reached_calls : (d : Domain) (g : Program d) (s : Source d) (p : d.Pred) (v : d.Value) → IsReached d g s p v → (c : d.Clause) → IsIn c (g.clauses p) → (q : d.Pred) (x : d.Value) → IsIn (name_of d q x) (calls_of d s c v) → IsReached d g s q x
-reached_calls d g s p v r c i q x j = (suc r.0, Called (name_of d p v) c r.1 i j)
+reached_calls d g s p v r c i q x j = (suc r.0, ByCall (name_of d p v) c r.1 i j)
 
 module _ (d : Domain) (g : Program d) (laws : IsLawful d g) (s : Source d) (low : IsFromBelow d g s) where
   -- what is reached is a value
   pub reached_value : (k : ℕ) (x : NameOf d) → Reaches d g s k x → d.leq x.pred x.call x.call
   reached_value k x r =
       let (w, i, le) = reach_below d g laws s (stage d g low.0) (IsReached d g (stage d g low.0)) (reached_calls d g (stage d g low.0))
-      (λ p v i. (zero, Entry i))
+      (λ p v i. (zero, AtEntry i))
       (λ p v w i le. trans_at d g laws p (s p v) (stage d g low.0 p v) (stage d g low.0 p w) (low.1 p v (laws.left le)) (stage_le d g laws low.0 low.0 (omega arith) p v w le)) r in
       laws.left le
 

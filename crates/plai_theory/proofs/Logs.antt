@@ -3,9 +3,9 @@ use Rattle.std.proofs.Common.{◌≡◌, ◌≢◌, ◌⊎◌, ℕ, zero, suc, t
 use Rattle.plai_theory.specs.Words.{IsIn, given, UpTo, item}
 use Rattle.plai_theory.specs.Domain.{Domain, Program, IsLawful}
 use Rattle.plai_theory.specs.Evaluation.{Source, NameOf, name_of, answer_of, calls_of}
-use Rattle.plai_theory.specs.Stages.{stage, Reaches, Entry, Called, IsFromBelow, IsSettled}
+use Rattle.plai_theory.specs.Stages.{stage, Reaches, AtEntry, ByCall, IsFromBelow, IsSettled}
 use Rattle.plai_theory.specs.LeastTable.{Row, Order, IsLeastTable}
-use Rattle.plai_theory.specs.LegalWork.{WorkRow, Work, Made, Woke, Evaluated, Grew, find, present_source, mentions, new_row, after_waking, after_evaluating, after_growing, calls_now, answer_now, next_answer, after, IsDue, NoneDue, IsDemanded, IsLegal, IsLegalLog, after_all, IsEnd, IsNeeded, First, Then, IsOutcome, no_work, LogEntry}
+use Rattle.plai_theory.specs.LegalWork.{WorkRow, Work, Made, Woke, Evaluated, Grew, find, present_source, mentions, new_row, after_waking, after_evaluating, after_growing, calls_now, answer_now, next_answer, after, IsDue, NoneDue, IsDemanded, IsLegal, IsLegalLog, after_all, IsEnd, IsNeeded, First, Then, IsLogResult, no_work, LogEntry}
 use Rattle.plai_theory.proofs.Options.{by_test}
 use Rattle.plai_theory.proofs.Eval.{same_answer, same_called, Agree}
 use Rattle.plai_theory.proofs.Stages.{trans_at, left_at, joined_first, joined_second, joined_least}
@@ -324,16 +324,16 @@ module _ (d : Domain) (g : Program d) (laws : IsLawful d g) where
     need_met x (Then m n rec) = end.met x (inr (m, rec))
 
     needed_reached : {x : NameOf d} → IsNeeded d g w.rows x → (k : ℕ) × Reaches d g (present_source d w.rows) k x
-    needed_reached (First i) = (zero, Entry i)
+    needed_reached (First i) = (zero, AtEntry i)
     needed_reached (Then {x = x} m n rec) =
         let (k, r) = needed_reached n in
         let e : rec.row.calls rec.number ≡ calls_of d (present_source d w.rows) rec.clause m.call =
         done.clean_calls m rec.row rec.there rec.number rec.clause rec.is_clause (end.clean m rec.row rec.there rec.is_live rec.number rec.clause rec.is_clause) in
-        (suc k, Called m rec.clause r (item_in (g.clauses m.pred) rec.number rec.clause rec.is_clause) (subst (λ (ns : List (NameOf d)). IsIn x ns) e rec.names))
+        (suc k, ByCall m rec.clause r (item_in (g.clauses m.pred) rec.number rec.clause rec.is_clause) (subst (λ (ns : List (NameOf d)). IsIn x ns) e rec.names))
 
     pub reached_needed : {k : ℕ} {x : NameOf d} → Reaches d g (present_source d w.rows) k x → IsNeeded d g w.rows x
-    reached_needed (Entry i) = First i
-    reached_needed (Called {x = x} m c r i j) =
+    reached_needed (AtEntry i) = First i
+    reached_needed (ByCall {x = x} m c r i j) =
         let n : IsNeeded d g w.rows m = reached_needed r in
         let (q, f, live) = need_met m n in
         let (k, e) = in_item (g.clauses m.pred) c i in
@@ -355,7 +355,7 @@ module _ (d : Domain) (g : Program d) (laws : IsLawful d g) where
         (no_exception (x, n) (done.clean_answers x q f n c e (end.clean x q f live n c e)))
 
     -- Theorem: the result of work that ends is the least table.
-    pub outcome_least : (before : Order d) (rows : List (Row d)) → IsOutcome d g before w rows → IsLeastTable d g before rows
+    pub outcome_least : (before : Order d) (rows : List (Row d)) → IsLogResult d g before w rows → IsLeastTable d g before rows
     outcome_least before rows out =
         least_table d g laws before (present_source d w.rows) rows done.low end_settled
         (record {
@@ -365,7 +365,7 @@ module _ (d : Domain) (g : Program d) (laws : IsLawful d g) where
         })
 
   -- Theorem: every legal log that opens with no rows and ends has the least table as its result, whatever its order.
-  pub legal_log_least : (limit : ℕ) (es : List (LogEntry d)) → IsLegalLog d g limit (no_work d) es → IsEnd d g (after_all d g (no_work d) es) → (before : Order d) (rows : List (Row d)) → IsOutcome d g before (after_all d g (no_work d) es) rows → IsLeastTable d g before rows
+  pub legal_log_least : (limit : ℕ) (es : List (LogEntry d)) → IsLegalLog d g limit (no_work d) es → IsEnd d g (after_all d g (no_work d) es) → (before : Order d) (rows : List (Row d)) → IsLogResult d g before (after_all d g (no_work d) es) rows → IsLeastTable d g before rows
   legal_log_least limit es legal end = outcome_least (after_all d g (no_work d) es) (log_keeps limit (no_work d) es empty legal) end
 
   -- a growth is strict, so that a rank gets smaller

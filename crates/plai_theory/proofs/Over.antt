@@ -3,12 +3,12 @@ use Rattle.std.proofs.Common.{◌≡◌, ◌⊎◌, ℕ, zero, ◌+◌, ◌≤�
 use Rattle.plai_theory.specs.Words.{IsIn, UpTo, item, HasSome}
 use Rattle.plai_theory.specs.Domain.{Step, Goal, Do, Domain, Program, IsLawful}
 use Rattle.plai_theory.specs.Evaluation.{Source, NameOf, name_of, calls_along, calls_of}
-use Rattle.plai_theory.specs.Stages.{stage, Reaches, Entry, IsFromBelow, IsSettled}
+use Rattle.plai_theory.specs.Stages.{stage, Reaches, AtEntry, IsFromBelow, IsSettled}
 use Rattle.plai_theory.specs.LeastTable.{Row, Order, IsSnapshot, IsStrictOrder}
 use Rattle.plai_theory.specs.Tables.{source_of, HasName}
 use Rattle.plai_theory.specs.LegalWork.{WorkRow, Work, Made, Woke, Evaluated, Grew, find, present_source, new_row, mentions, after_waking, after_evaluating, after_growing, calls_now, next_answer, after, IsLegal, IsLegalLog, after_all, IsEnd, LogEntry}
 use Rattle.plai_theory.specs.Edits.{IsOpening}
-use Rattle.plai_theory.specs.Limits.{Limits, IsMonotone, IsOverAlong, IsOverAt, IsOver, Fits, AllFit, CleanFit}
+use Rattle.plai_theory.specs.Limits.{Limits, AreUpwardClosed, IsOverAlong, IsOverAt, IsOver, Fits, AllFit, CleanFit}
 use Rattle.plai_theory.proofs.Options.{in_given, by_test}
 use Rattle.plai_theory.proofs.Eval.{Meets, IsPart, Agree}
 use Rattle.plai_theory.proofs.Stages.{stage_le, stage_below, reach_below, reach_more}
@@ -33,7 +33,7 @@ either : {A B C D : Type 0} → (A → C) → (B → D) → A ⊎ B → C ⊎ D
 either f g (inl a) = inl (f a)
 either f g (inr b) = inr (g b)
 
-module _ (d : Domain) (g : Program d) (laws : IsLawful d g) (limits : Limits d) (mono : IsMonotone d g limits) (s t : Source d) (q : d.Pred) (c : d.Clause) (inside : IsIn c (g.clauses q)) where
+module _ (d : Domain) (g : Program d) (laws : IsLawful d g) (limits : Limits d) (mono : AreUpwardClosed d g limits) (s t : Source d) (q : d.Pred) (c : d.Clause) (inside : IsIn c (g.clauses q)) where
   along_le : (steps : List (Step d.Literal d.Action)) → IsPart d steps c → (a b : d.State) → d.below c a b → Meets d s t (calls_along d s steps a) (calls_along d t steps b) → IsOverAlong d limits s steps a → IsOverAlong d limits t steps b
   unfolding calls_along
   along_le [] part a b h m o = absurd o
@@ -77,7 +77,7 @@ module _ (d : Domain) (limits : Limits d) (s t : Source d) where
   unfolding calls_of
   over_same c v m o = either (λ z. z) (has_same _ _ (d.enter c v) (λ a e. along_same (d.body c) a (λ q x i. m q x (in_given _ (d.enter c v) _ a e i)))) o
 
-module _ (d : Domain) (g : Program d) (laws : IsLawful d g) (limits : Limits d) (mono : IsMonotone d g limits) where
+module _ (d : Domain) (g : Program d) (laws : IsLawful d g) (limits : Limits d) (mono : AreUpwardClosed d g limits) where
   -- Theorem: an evaluation that is over under a source from below, at a name that is near, shows that the program is over.
   pub near_over : (s : Source d) → IsFromBelow d g s → (x : NameOf d) → IsNear d g x → (c : d.Clause) → IsIn c (g.clauses x.pred) → IsOverAt d limits s c x.call → IsOver d g limits
   near_over s low x near c i o =
@@ -98,7 +98,7 @@ module _ (d : Domain) (g : Program d) (laws : IsLawful d g) (limits : Limits d) 
       let n : ℕ = over.number in
       let under : (p : d.Pred) (v w : d.Value) → IsReached d g s p w → d.leq p v w → UpTo (d.leq p) (stage d g n p v) (s p w) =
       stage_below d g laws s (IsReached d g s) (closed_reach d g laws s low settled) n in
-      let (w, r, le) = reach_below d g laws (stage d g n) s (IsReached d g s) (reached_calls d g s) (λ p v i. (zero, Entry i)) under over.reached in (
+      let (w, r, le) = reach_below d g laws (stage d g n) s (IsReached d g s) (reached_calls d g s) (λ p v i. (zero, AtEntry i)) under over.reached in (
         name_of d over.name.pred w,
         r,
         (
@@ -158,14 +158,14 @@ module _ (d : Domain) (g : Program d) (laws : IsLawful d g) (limits : Limits d) 
       fit_log limit (after d g w e) es (step d g laws limit w e inv legal.0) (fit_step limit w e inv fit legal.0 fits.0) legal.1 fits.1
 
   -- Theorem: where work ends and no evaluation of a clean pair is over, the program isn't.
-  pub end_not_over : IsMonotone d g limits → (w : Work d) → Inv d g w.rows w.last → IsEnd d g w → CleanFit d g limits w.rows → IsOver d g limits → ⊥
+  pub end_not_over : AreUpwardClosed d g limits → (w : Work d) → Inv d g w.rows w.last → IsEnd d g w → CleanFit d g limits w.rows → IsOver d g limits → ⊥
   end_not_over mono w inv end fit over =
       let (x, (k, r), (c, i, o)) = over_settled d g laws limits mono (present_source d w.rows) (done d g laws w inv end).low (end_settled d g laws w inv end) over in
       let (q, f, live) = need_met d g laws w inv end x (reached_needed d g laws w inv end r) in
       let (n, e) = in_item (g.clauses x.pred) c i in
       fit x q f n c e (end.clean x q f live n c e) o
 
-module _ (d : Domain) (old : Program d) (new : Program d) (laws : IsLawful d old) (laws' : IsLawful d new) (limits : Limits d) (mono : IsMonotone d old limits) (before : Order d) (order : IsStrictOrder d before) (rows : List (Row d)) (N : ℕ) (least : (n : ℕ) → N ≤ n → IsSnapshot d old before n rows) where
+module _ (d : Domain) (old : Program d) (new : Program d) (laws : IsLawful d old) (laws' : IsLawful d new) (limits : Limits d) (mono : AreUpwardClosed d old limits) (before : Order d) (order : IsStrictOrder d before) (rows : List (Row d)) (N : ℕ) (least : (n : ℕ) → N ≤ n → IsSnapshot d old before n rows) where
   table_below : IsFromBelow d old (source_of d rows)
   table_below = (
     N,
@@ -192,7 +192,7 @@ module _ (d : Domain) (old : Program d) (new : Program d) (laws : IsLawful d old
       fine (near_over d old laws limits mono (source_of d rows) table_below x (table_near x (o.kept x r f).0) c j
       (over_same d limits (present_source d opened) (source_of d rows) c x.call (opened_agree d old new laws laws' before order rows N least opened o x (o.kept x r f) c j) over))
 
-module _ (d : Domain) (g : Program d) (laws : IsLawful d g) (limits : Limits d) (mono : IsMonotone d g limits) where
+module _ (d : Domain) (g : Program d) (laws : IsLawful d g) (limits : Limits d) (mono : AreUpwardClosed d g limits) where
   -- Theorem: an evaluation of a live row that is over shows that the program is.
   pub over_cause : (limit : ℕ) (open' : Work d) → Inv d g open'.rows open'.last → (es : List (LogEntry d)) → IsLegalLog d g limit open' es → (x : NameOf d) (r : WorkRow d) → find d (after_all d g open' es).rows x ≡ Some r → r.live ≡ true → (c : d.Clause) → IsIn c (g.clauses x.pred) → IsOverAt d limits (present_source d (after_all d g open' es).rows) c x.call → IsOver d g limits
   over_cause limit open' inv0 es legal x r f live c i over =
@@ -205,5 +205,5 @@ module _ (d : Domain) (g : Program d) (laws : IsLawful d g) (limits : Limits d) 
       end_not_over d g laws limits mono (after_all d g open' es) (log_keeps d g laws limit open' es inv0 legal) end
       (fit_log d g laws limits limit open' es inv0 fit0 legal fits)
 
-pub nothing_fits : (d : Domain) (g : Program d) {limits : Limits d} → IsMonotone d g limits → CleanFit d g limits []
+pub nothing_fits : (d : Domain) (g : Program d) {limits : Limits d} → AreUpwardClosed d g limits → CleanFit d g limits []
 nothing_fits d g mono x r f i c e t o = cc

@@ -3,7 +3,7 @@ use Rattle.std.proofs.Common.{◌≡◌, ℕ, suc, ◌+◌, ◌≤◌, List, [],
 use Rattle.plai_theory.specs.Words.{IsIn}
 use Rattle.plai_theory.specs.Domain.{Domain, Program, IsLawful}
 use Rattle.plai_theory.specs.Evaluation.{NameOf, name_of, calls_of}
-use Rattle.plai_theory.specs.Stages.{stage, Reaches, Entry, Called}
+use Rattle.plai_theory.specs.Stages.{stage, Reaches, AtEntry, ByCall}
 use Rattle.plai_theory.specs.LeastTable.{Row, Order, IsOrdered, IsSnapshot, IsLeastTable, IsStrictOrder}
 use Rattle.plai_theory.specs.Tables.{source_of, HasName, IsDistinct, IsClosed}
 use Rattle.plai_theory.proofs.Eval.{same_answer, same_called, Agree}
@@ -72,12 +72,12 @@ module _ (d : Domain) (g : Program d) (laws : IsLawful d g) (before : Order d) (
 
   -- what stage N reaches within N steps, each later stage does
   reach_later : (n : ℕ) → N ≤ n → {k : ℕ} {x : NameOf d} → k ≤ N → Reaches d g (stage d g N) k x → Reaches d g (stage d g n) k x
-  reach_later n h le (Entry i) = Entry i
-  reach_later n h le (Called {n = k} {x = x} m c r i j) =
-      Called m c (reach_later n h (omega arith) r) i
+  reach_later n h le (AtEntry i) = AtEntry i
+  reach_later n h le (ByCall {n = k} {x = x} m c r i j) =
+      ByCall m c (reach_later n h (omega arith) r) i
       (subst (λ (ns : List (NameOf d)). IsIn x ns)
       (sym (same_called d (stage d g n) (stage d g N) c m.call (λ q u t.
-      let there : HasName d rows (name_of d q u) = (least N (omega arith)).whole (name_of d q u) (reach_more d g (stage d g N) N le (Called m c r i t)) in
+      let there : HasName d rows (name_of d q u) = (least N (omega arith)).whole (name_of d q u) (reach_more d g (stage d g N) N le (ByCall m c r i t)) in
       stage_at n h (name_of d q u) there ∙ sym (stage_at N (omega arith) (name_of d q u) there))))
       j)
 
@@ -85,7 +85,7 @@ module _ (d : Domain) (g : Program d) (laws : IsLawful d g) (before : Order d) (
   calls_rows : (r : Row d) → IsIn r rows → (c : d.Clause) → IsIn c (g.clauses r.name.pred) → (x : NameOf d) → IsIn x (calls_of d (stage d g (suc N)) c r.name.call) → HasName d rows x
   calls_rows r i c j x k =
       (least (suc N) (omega arith)).whole x
-      (Called r.name c (reach_later (suc N) (omega arith) (omega arith) ((least N (omega arith)).sound r i).0) j k)
+      (ByCall r.name c (reach_later (suc N) (omega arith) (omega arith) ((least N (omega arith)).sound r i).0) j k)
 
   agree : (r : Row d) → IsIn r rows → (c : d.Clause) → IsIn c (g.clauses r.name.pred) → Agree d (source_of d rows) (stage d g (suc N)) (calls_of d (stage d g (suc N)) c r.name.call)
   agree r i c j p v k = sym (stage_at (suc N) (omega arith) (name_of d p v) (calls_rows r i c j (name_of d p v) k))
@@ -94,7 +94,7 @@ module _ (d : Domain) (g : Program d) (laws : IsLawful d g) (before : Order d) (
   pub least_closed : IsClosed d g rows
   least_closed = record {
     distinct = distinct;
-    entries = λ x i. (least N (omega arith)).whole x (Entry i);
+    entries = λ x i. (least N (omega arith)).whole x (AtEntry i);
     calls = λ r i c j x k. calls_rows r i c j x
         (subst (λ (ns : List (NameOf d)). IsIn x ns) (same_called d (source_of d rows) (stage d g (suc N)) c r.name.call (agree r i c j)) k);
     answers = λ r i c j.

@@ -1,9 +1,9 @@
--- The computed list is the one that `IsSnap` speaks of.
+-- The computed list is the one that `IsSnapshot` speaks of.
 use Rattle.std.proofs.Common.{◌≡◌, ◌⊎◌, ◌↔◌, ℕ, zero, suc, ◌≤◌, Bool, true, false, List, [], ◌∷◌, ◌++◌, map, sym, refl, ap, ◌∙◌, subst, inl, inr}
 use Rattle.plai_theory.specs.Words.{IsIn}
 use Rattle.plai_theory.specs.Domain.{Domain, Program}
 use Rattle.plai_theory.specs.Evaluation.{Source, NameOf, calls_of}
-use Rattle.plai_theory.specs.Stages.{stage, Reaches, Entry, Called}
+use Rattle.plai_theory.specs.Stages.{stage, Reaches, AtEntry, ByCall}
 use Rattle.plai_theory.specs.LeastTable.{Row, Order, IsOrdered, IsSnapshot, IsLeastTable, IsStrictOrder}
 use Rattle.plai_theory.specs.Snapshots.{calls_of_clauses, calls_of_names, reach_list, placed, in_order, row_at, snapshot, IsTotalTest}
 use Rattle.plai_theory.proofs.Options.{by_test}
@@ -28,7 +28,7 @@ in_either (y ∷ xs) ys x (inr i) = later (in_either xs ys x i)
     later (inl j) = inl (inr j)
     later (inr j) = inr j
 
-in_map : {A B : Type 0} (f : A → B) (xs : List A) (x : A) → IsIn x xs → IsIn (f x) (map f xs)
+pub in_map : {A B : Type 0} (f : A → B) (xs : List A) (x : A) → IsIn x xs → IsIn (f x) (map f xs)
 in_map f [] x i = absurd i
 in_map f (y ∷ xs) x (inl e) = inl (ap f e)
 in_map f (y ∷ xs) x (inr i) = inr (in_map f xs x i)
@@ -63,21 +63,21 @@ module _ (d : Domain) (g : Program d) (s : Source d) where
 
   -- the list has the names that the relation reaches
   pub reach_in : {k : ℕ} {x : NameOf d} → Reaches d g s k x → IsIn x (reach_list d g s k)
-  reach_in (Entry {n = zero} i) = i
-  reach_in (Entry {n = suc n} {x = x} i) = in_left g.entries (calls_of_names d g s (reach_list d g s n)) x i
-  reach_in (Called {n = n} {x = x} m c r i j) =
+  reach_in (AtEntry {n = zero} i) = i
+  reach_in (AtEntry {n = suc n} {x = x} i) = in_left g.entries (calls_of_names d g s (reach_list d g s n)) x i
+  reach_in (ByCall {n = n} {x = x} m c r i j) =
       in_right g.entries (calls_of_names d g s (reach_list d g s n)) x (in_calls_of (reach_list d g s n) m x (reach_in r) (in_calls_by (g.clauses m.pred) m.call x c i j))
 
   pub in_reach : (k : ℕ) (x : NameOf d) → IsIn x (reach_list d g s k) → Reaches d g s k x
-  in_reach zero x i = Entry i
+  in_reach zero x i = AtEntry i
   in_reach (suc n) x i = at (in_either g.entries (calls_of_names d g s (reach_list d g s n)) x i) (in_reach n)
     where
       at : IsIn x g.entries ⊎ IsIn x (calls_of_names d g s (reach_list d g s n)) → ((y : NameOf d) → IsIn y (reach_list d g s n) → Reaches d g s n y) → Reaches d g s (suc n) x
-      at (inl j) k = Entry j
+      at (inl j) k = AtEntry j
       at (inr j) k =
           let (m, l, h) = of_calls_of (reach_list d g s n) x j in
           let (c, e, f) = of_calls_by (g.clauses m.pred) m.call x h in
-          Called m c (k m l) e f
+          ByCall m c (k m l) e f
 
 module _ (d : Domain) (is_before : NameOf d → NameOf d → Bool) (test : IsTotalTest d is_before) where
   abbrev pub before : Order d

@@ -3,7 +3,7 @@ use Rattle.std.proofs.Common.{◌≡◌, ℕ, zero, suc, ◌≤◌, Option, Some
 use Rattle.plai_theory.specs.Words.{IsIn, UpTo}
 use Rattle.plai_theory.specs.Domain.{Domain, Program, IsLawful}
 use Rattle.plai_theory.specs.Evaluation.{Source, NameOf, name_of, answer_of, calls_of, join_of, best_of}
-use Rattle.plai_theory.specs.Stages.{stage, Reaches, Entry, Called}
+use Rattle.plai_theory.specs.Stages.{stage, Reaches, AtEntry, ByCall}
 use Rattle.plai_theory.proofs.Options.{UpTo-trans, UpTo-antisym, UpTo-left}
 use Rattle.plai_theory.proofs.Eval.{answer_le, called_le, same_called}
 
@@ -37,7 +37,7 @@ module _ (d : Domain) (g : Program d) (laws : IsLawful d g) (p : d.Pred) where
   joined_least (Some a) (Some b) None h k = absurd h
   joined_least (Some a) (Some b) (Some c) h k = laws.join_least h k
 
-  -- the best of clauses is their least upper bound
+  -- the join of the answers of clauses is their least upper bound
   pub best_least : (s : Source d) (cs : List d.Clause) (v : d.Value) (top : Option d.Value) → ((c : d.Clause) → IsIn c cs → UpTo (d.leq p) (answer_of d s c v) top) → UpTo (d.leq p) (best_of d s cs v) top
   unfolding best_of
   best_least s [] v top h = tt
@@ -106,8 +106,8 @@ module _ (d : Domain) (g : Program d) (laws : IsLawful d g) (s : Source d) (In :
 -- What a lower source reaches lies below what the upper one is closed at.
 module _ (d : Domain) (g : Program d) (laws : IsLawful d g) (s t : Source d) (In : d.Pred → d.Value → Type 0) where
   pub reach_below : (calls_in : (p : d.Pred) (v : d.Value) → In p v → (c : d.Clause) → IsIn c (g.clauses p) → (q : d.Pred) (x : d.Value) → IsIn (name_of d q x) (calls_of d t c v) → In q x) → (from : (p : d.Pred) (v : d.Value) → IsIn (name_of d p v) g.entries → In p v) → (under : (p : d.Pred) (v w : d.Value) → In p w → d.leq p v w → UpTo (d.leq p) (s p v) (t p w)) → {k : ℕ} {x : NameOf d} → Reaches d g s k x → (w : d.Value) × In x.pred w × d.leq x.pred x.call w
-  reach_below calls_in from under (Entry {x = x} i) = (x.call, from x.pred x.call i, laws.entries x.pred x.call i)
-  reach_below calls_in from under (Called {x = x} m c r i j) =
+  reach_below calls_in from under (AtEntry {x = x} i) = (x.call, from x.pred x.call i, laws.entries x.pred x.call i)
+  reach_below calls_in from under (ByCall {x = x} m c r i j) =
       let (w, in_w, le) = reach_below calls_in from under r in
       let (y, k, le') = called_le d g laws s t m.pred c i m.call w le (λ q u z l k le'. under q u z (calls_in m.pred w in_w c i q z k) le') x.pred x.call j in
       (y, calls_in m.pred w in_w c i x.pred y k, le')
@@ -115,17 +115,17 @@ module _ (d : Domain) (g : Program d) (laws : IsLawful d g) (s t : Source d) (In
 -- Sources that agree at what the second reaches reach the same.
 module _ (d : Domain) (g : Program d) (s t : Source d) (same : (k : ℕ) (x : NameOf d) → Reaches d g t k x → s x.pred x.call ≡ t x.pred x.call) where
   pub reach_to : {k : ℕ} {x : NameOf d} → Reaches d g t k x → Reaches d g s k x
-  reach_to (Entry i) = Entry i
-  reach_to (Called {x = x} m c r i j) =
-      Called m c (reach_to r) i (subst (λ (ns : List (NameOf d)). IsIn x ns) (sym (same_called d s t c m.call (λ q u k. same _ (name_of d q u) (Called m c r i k)))) j)
+  reach_to (AtEntry i) = AtEntry i
+  reach_to (ByCall {x = x} m c r i j) =
+      ByCall m c (reach_to r) i (subst (λ (ns : List (NameOf d)). IsIn x ns) (sym (same_called d s t c m.call (λ q u k. same _ (name_of d q u) (ByCall m c r i k)))) j)
 
   pub reach_from : {k : ℕ} {x : NameOf d} → Reaches d g s k x → Reaches d g t k x
-  reach_from (Entry i) = Entry i
-  reach_from (Called {x = x} m c r i j) =
+  reach_from (AtEntry i) = AtEntry i
+  reach_from (ByCall {x = x} m c r i j) =
       let back : Reaches d g t _ m = reach_from r in
-      Called m c back i (subst (λ (ns : List (NameOf d)). IsIn x ns) (same_called d s t c m.call (λ q u k. same _ (name_of d q u) (Called m c back i k))) j)
+      ByCall m c back i (subst (λ (ns : List (NameOf d)). IsIn x ns) (same_called d s t c m.call (λ q u k. same _ (name_of d q u) (ByCall m c back i k))) j)
 
 pub reach_more : (d : Domain) (g : Program d) (s : Source d) {x : NameOf d} {k : ℕ} (m : ℕ) → k ≤ m → Reaches d g s k x → Reaches d g s m x
-reach_more d g s m h (Entry i) = Entry i
-reach_more d g s zero h (Called y c r i j) = absurd (omega arith)
-reach_more d g s (suc m) h (Called y c r i j) = Called y c (reach_more d g s m (omega arith) r) i j
+reach_more d g s m h (AtEntry i) = AtEntry i
+reach_more d g s zero h (ByCall y c r i j) = absurd (omega arith)
+reach_more d g s (suc m) h (ByCall y c r i j) = ByCall y c (reach_more d g s m (omega arith) r) i j

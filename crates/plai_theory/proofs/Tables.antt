@@ -3,7 +3,7 @@ use Rattle.std.proofs.Common.{◌≡◌, ℕ, Option, List, [], ◌∷◌, sym, 
 use Rattle.plai_theory.specs.Words.{IsIn, UpTo}
 use Rattle.plai_theory.specs.Domain.{Domain, Program, IsLawful}
 use Rattle.plai_theory.specs.Evaluation.{NameOf, name_of, answer_of, calls_of}
-use Rattle.plai_theory.specs.Stages.{stage, Reaches, Entry, Called, IsFromBelow}
+use Rattle.plai_theory.specs.Stages.{stage, Reaches, AtEntry, ByCall, IsFromBelow}
 use Rattle.plai_theory.specs.LeastTable.{Row, Order, IsOrdered, IsLeastTable}
 use Rattle.plai_theory.specs.Tables.{source_of, HasName, IsDistinct, IsClosed}
 use Rattle.plai_theory.proofs.Options.{by_test}
@@ -46,8 +46,8 @@ module _ (d : Domain) (g : Program d) (laws : IsLawful d g) (rows : List (Row d)
 
   -- what is reached under the list is a row
   pub reach_rows : {k : ℕ} {x : NameOf d} → Reaches d g (source_of d rows) k x → HasName d rows x
-  reach_rows (Entry {x = x} i) = closed.entries x i
-  reach_rows (Called {x = x} m c r i j) = closed_at.calls_in m.pred m.call (reach_rows r) c i x.pred x.call j
+  reach_rows (AtEntry {x = x} i) = closed.entries x i
+  reach_rows (ByCall {x = x} m c r i j) = closed_at.calls_in m.pred m.call (reach_rows r) c i x.pred x.call j
 
   -- Theorem: a closed list that is reached from below, in order, and all of whose rows are reached, is the least table.
   pub closed_is_least : (before : Order d) → IsOrdered d before rows → IsFromBelow d g (source_of d rows) → ((r : Row d) → IsIn r rows → (k : ℕ) × Reaches d g (source_of d rows) k r.name) → IsLeastTable d g before rows

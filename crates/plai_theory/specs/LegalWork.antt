@@ -160,7 +160,7 @@ pub data IsNeeded (d : Domain) (g : Program d) (rows : List (WorkRow d)) : NameO
   Then : {x : NameOf d} (m : NameOf d) → IsNeeded d g rows m → IsRecorded d g rows m x → IsNeeded d g rows x
 
 -- the result of work: the needed rows with their answers, in order
-pub record IsOutcome (d : Domain) (g : Program d) (before : Order d) (w : Work d) (rows : List (Row d)) : Type 0 where
+pub record IsLogResult (d : Domain) (g : Program d) (before : Order d) (w : Work d) (rows : List (Row d)) : Type 0 where
   pub ordered : IsOrdered d before rows
   pub sound : (r : Row d) → IsIn r rows
       → IsNeeded d g w.rows r.name × (r.answer ≡ present_source d w.rows r.name.pred r.name.call)

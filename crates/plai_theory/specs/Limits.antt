@@ -14,7 +14,7 @@ pub record Limits (d : Domain) : Type 1 where
   pub refine : d.Action → d.State → Type 0
 
 -- what is over from a smaller value or state is over from a larger one
-pub record IsMonotone (d : Domain) (g : Program d) (limits : Limits d) : Type 0 where
+pub record AreUpwardClosed (d : Domain) (g : Program d) (limits : Limits d) : Type 0 where
   pub enter : (p : d.Pred) (c : d.Clause) (v w : d.Value) → IsIn c (g.clauses p) → d.leq p v w
       → limits.enter c v → limits.enter c w
   pub call : (p : d.Pred) (c : d.Clause) (l : d.Literal) (s t : d.State) → IsIn c (g.clauses p) → IsIn (Goal l) (d.body c)

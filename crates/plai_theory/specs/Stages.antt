@@ -11,8 +11,9 @@ stage d g (suc n) p v = best_of d (stage d g n) (g.clauses p) v
 
 -- the names that at most n call steps reach from the entries, under a source
 pub data Reaches (d : Domain) (g : Program d) (s : Source d) : ℕ → NameOf d → Type 0 where
-  Entry : {n : ℕ} {x : NameOf d} → IsIn x g.entries → Reaches d g s n x
-  Called : {n : ℕ} {x : NameOf d} (m : NameOf d) (c : d.Clause) → Reaches d g s n m → IsIn c (g.clauses m.pred) → IsIn x (calls_of d s c m.call) → Reaches d g s (suc n) x
+  AtEntry : {n : ℕ} {x : NameOf d} → IsIn x g.entries → Reaches d g s n x
+  ByCall : {n : ℕ} {x : NameOf d} (m : NameOf d) (c : d.Clause) → Reaches d g s n m → IsIn c (g.clauses m.pred)
+      → IsIn x (calls_of d s c m.call) → Reaches d g s (suc n) x
 
 -- some stage lies at or above the source, at each value
 abbrev pub IsFromBelow : (d : Domain) → Program d → Source d → Type 0

@@ -3,8 +3,8 @@ ghost use Rattle.plai_theory.specs.Words.{IsIn};
 ghost use Rattle.plai_theory.specs.Domain.{Program, IsLawful};
 ghost use Rattle.plai_theory.specs.Evaluation.{NameOf};
 ghost use Rattle.plai_theory.specs.LeastTable.{Row, IsStrictOrder, IsLeastTable};
-ghost use Rattle.plai_theory.specs.LegalWork.{WorkRow, LogEntry, find, present_source, work_with, after_all, live_count, IsLegalLog, IsOutcome};
-ghost use Rattle.plai_theory.specs.Limits.{IsMonotone, IsOverAt, IsOver, AllFit};
+ghost use Rattle.plai_theory.specs.LegalWork.{WorkRow, LogEntry, find, present_source, work_with, after_all, live_count, IsLegalLog, IsLogResult};
+ghost use Rattle.plai_theory.specs.Limits.{AreUpwardClosed, IsOverAt, IsOver, AllFit};
 ghost use Rattle.plai_theory.specs.Edits.{IsKept, IsOpening, IsQuiet, IsCaused, grown_back};
 ghost use Rattle.plai_theory.specs.Claims.{IsWholeLog, IsStoppedLog, IsRepair, HaveBelow};
 
@@ -16,7 +16,7 @@ pub fn repair_laws<T: AnyDomain>()
     ensures repair_gives_it { (old new : Program T.domain) (table : List (Row T.domain)) (opened : List (WorkRow T.domain))
         → IsRepair T.domain T.before old new table opened
         → (limit : ℕ) (log : List (LogEntry T.domain)) → IsWholeLog T.domain new limit (work_with T.domain opened) log
-        → (result : List (Row T.domain)) → IsOutcome T.domain new T.before (after_all T.domain new (work_with T.domain opened) log) result
+        → (result : List (Row T.domain)) → IsLogResult T.domain new T.before (after_all T.domain new (work_with T.domain opened) log) result
         → IsLeastTable T.domain new T.before result }
 
     // A clause of a kept row is dirty only where its predicate gained it, or a name that it calls grew in this edit.
@@ -41,14 +41,14 @@ pub fn repair_laws<T: AnyDomain>()
         → (limit : ℕ) (log : List (LogEntry T.domain)) (x : NameOf T.domain) → IsStoppedLog T.domain new limit (work_with T.domain opened) log x
         → HaveBelow T.domain rows (suc (live_count T.domain (after_all T.domain new (work_with T.domain opened) log).rows)) }
     ensures repair_over_has_cause { (old new : Program T.domain) (table : List (Row T.domain)) (opened : List (WorkRow T.domain))
-        → IsRepair T.domain T.before old new table opened → IsMonotone T.domain new T.limits
+        → IsRepair T.domain T.before old new table opened → AreUpwardClosed T.domain new T.limits
         → (limit : ℕ) (log : List (LogEntry T.domain)) → IsLegalLog T.domain new limit (work_with T.domain opened) log
         → (x : NameOf T.domain) (r : WorkRow T.domain) → find T.domain (after_all T.domain new (work_with T.domain opened) log).rows x ≡ Some r → r.live ≡ true
         → (c : T.domain.Clause) → IsIn c (new.clauses x.pred)
         → IsOverAt T.domain T.limits (present_source T.domain (after_all T.domain new (work_with T.domain opened) log).rows) c x.call
         → IsOver T.domain new T.limits }
     ensures repair_is_not_over { (old new : Program T.domain) (table : List (Row T.domain)) (opened : List (WorkRow T.domain))
-        → IsRepair T.domain T.before old new table opened → IsMonotone T.domain old T.limits → IsMonotone T.domain new T.limits
+        → IsRepair T.domain T.before old new table opened → AreUpwardClosed T.domain old T.limits → AreUpwardClosed T.domain new T.limits
         → (IsOver T.domain old T.limits → ⊥)
         → (limit : ℕ) (log : List (LogEntry T.domain)) → IsWholeLog T.domain new limit (work_with T.domain opened) log
         → AllFit T.domain new T.limits (work_with T.domain opened) log → IsOver T.domain new T.limits → ⊥ }

@@ -3,10 +3,12 @@ use Rattle.plai_assignments.proofs.groundness_is_sound.Goals as goal
 
 pub returns : goal.returns
 returns c = record {
-  larger = λ n a b. larger_describes;
-  describe = describe_describes;
-  entails = entailed_holds;
-  excludes = excluded_fails;
+  tells_truly = record {
+    larger = λ n a b. larger_describes;
+    describe = describe_describes;
+    entails = entailed_holds;
+    excludes = excluded_fails;
+  };
   enter = enter_describes;
   call = λ s hs ts args d. call_describes s hs ts d args;
   back = λ s hs ts args r answer d below. back_describes s hs ts d args below r answer;

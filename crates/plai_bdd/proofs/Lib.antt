@@ -1,0 +1,17 @@
+pub mod Adding
+pub mod Branches
+pub mod Builds
+pub mod Canonical
+pub mod Depends
+pub mod Either
+pub mod Functions
+pub mod Lists
+pub mod Models
+pub mod Same
+pub mod Shown
+pub mod Slots
+pub mod Splits
+pub mod Steps
+pub mod Tables
+pub mod Trees
+pub mod Walks

@@ -1,0 +1,185 @@
+-- The steps of combining two places: leaves, a slot that is placed, a slot that is fixed, and what is noted.
+use Rattle.std.proofs.Common.{true≢false, Result, Ok, Err, IfOk, OnOk, ◌≡◌, ◌≢◌, ℕ, ◌+◌, ◌<◌, ◌≤◌, Bool, true, false, cond, nat_eq, min, ◌&&◌, List, get_or, refl, sym, ap, subst, ◌∙◌, arith, ◌⊎◌, inl, inr, Some}
+use Rattle.std.proofs.lemmas.Bool.Decides.{nat_tests}
+use Rattle.indexmap.specs.IndexMap.{IndexMap, get, Updates}
+use Rattle.plai_bdd.specs.Assignment.{Assignment}
+use Rattle.plai_bdd.specs.declared.node.Node.{Node}
+use Rattle.plai_bdd.specs.declared.node.Node.TheVariants.{Leaf, Branch}
+use Rattle.plai_bdd.specs.declared.combine.Pair.{Pair}
+use Rattle.plai_bdd.specs.declared.change.Connective.{Connective}
+use Rattle.plai_bdd.specs.declared.change.Change.{Change}
+use Rattle.plai_bdd.specs.declared.change.Placed.TheVariants.{At, Fixed}
+use Rattle.plai_bdd.specs.Change.{answer_of, placed, can_place, moved, changed, top_of}
+use Rattle.plai_bdd.specs.Nodes.{place_of, put, tree_at}
+use Rattle.plai_bdd.specs.Table.{no_node, IsTable, IsGrown, IsSource, Answers, Adds, IsMemo, slot_of, leaf_answer, children_of, joined_place, joined_table, same_pair, least_of, function_of}
+use Rattle.plai_bdd.proofs.Adding.{Answers-grown, Adds-as, Adds-leaf, Adds-join}
+use Rattle.plai_bdd.proofs.Tables.{IsGrown-same, put_grown}
+use Rattle.plai_bdd.proofs.Splits.{IsSplit, top_at_most, top_is, leaf_is, children_split, top_fits, placed_at, placed_fixed, moved_more}
+
+answers_split : (c : Connective) (b : Bool) (x y z w : Bool) → answer_of c (cond b x y) (cond b z w) ≡ cond b (answer_of c x z) (answer_of c y w)
+answers_split c true x y z w = refl
+answers_split c false x y z w = refl
+
+least_is : (m n : ℕ) → (min m n ≡ m) ⊎ (min m n ≡ n)
+least_is m n = grind arith
+
+module _ (connective : Connective) (change : Change) (left right : List Node) (i j : ℕ) (a b : Node)
+    (left_is : IsSource change left i) (right_is : IsSource change right j) (a_is : get_or left i no_node ≡ a) (b_is : get_or right j no_node ≡ b) where
+  tops_are : min (top_of (tree_at left i)) (top_of (tree_at right j)) ≡ min (slot_of a) (slot_of b)
+  tops_are = (λ x. min (top_is change left i a left_is a_is x) (top_is change right j b right_is b_is x))
+
+  -- two leaves
+  pub leaves : (t : List Node) (x : Bool) (slot : ℕ) → IsTable t → slot ≡ min (slot_of a) (slot_of b) → slot ≡ 64 → x ≡ answer_of connective (leaf_answer a) (leaf_answer b)
+      → Adds t (place_of (Leaf x) t) (put (Leaf x) t) (least_of change left right i j) (function_of connective change left right i j)
+  leaves t x slot ok slot_is e is =
+      let one = leaf_is change left i a left_is a_is (omega arith) in
+      let two = leaf_is change right j b right_is b_is (omega arith) in
+      let all : (at : Assignment) → x ≡ function_of connective change left right i j at = λ at. is ∙ (λ z. answer_of connective (sym (one (changed change at)) z) (sym (two (changed change at)) z)) in
+      Adds-as (omega arith) all (Adds-leaf x t (least_of change left right i j) ok)
+
+  module _ (slot : ℕ) (slot_is : slot ≡ min (slot_of a) (slot_of b)) (other : slot ≢ 64) (cl cr : ℕ × ℕ) (cl_is : cl ≡ children_of a slot i) (cr_is : cr ≡ children_of b slot j) where
+    lt : slot < 64
+    lt = omega (arith, other, top_is change left i a left_is a_is, top_at_most (tree_at left i) 0 left_is.reduced, top_is change right j b right_is b_is, top_at_most (tree_at right j) 0 right_is.reduced)
+
+    pub left_split : IsSplit change left i slot cl.0 cl.1
+    left_split = let P : ℕ × ℕ → Type 0 = λ p. IsSplit change left i slot p.0 p.1 in subst P (sym cl_is) (children_split change left i a slot left_is a_is (omega arith) lt)
+
+    pub right_split : IsSplit change right j slot cr.0 cr.1
+    right_split = let P : ℕ × ℕ → Type 0 = λ p. IsSplit change right j slot p.0 p.1 in subst P (sym cr_is) (children_split change right j b slot right_is b_is (omega arith) lt)
+
+    pub can_be : can_place change slot
+    can_be = by (least_is (slot_of a) (slot_of b))
+      where
+        by : (min (slot_of a) (slot_of b) ≡ slot_of a) ⊎ (min (slot_of a) (slot_of b) ≡ slot_of b) → can_place change slot
+        by (inl e) = top_fits change (tree_at left i) slot left_is.fits (top_is change left i a left_is a_is ∙ sym e ∙ sym slot_is) lt
+        by (inr e) = top_fits change (tree_at right j) slot right_is.fits (top_is change right j b right_is b_is ∙ sym e ∙ sym slot_is) lt
+
+    -- the children are earlier
+    pub low_falls : cl.0 + cr.0 < i + j
+    low_falls = by (least_is (slot_of a) (slot_of b))
+      where
+        by : (min (slot_of a) (slot_of b) ≡ slot_of a) ⊎ (min (slot_of a) (slot_of b) ≡ slot_of b) → cl.0 + cr.0 < i + j
+        by (inl e) = omega (arith, left_split.low_below (top_is change left i a left_is a_is ∙ sym e ∙ sym slot_is), right_split.low_within)
+        by (inr e) = omega (arith, right_split.low_below (top_is change right j b right_is b_is ∙ sym e ∙ sym slot_is), left_split.low_within)
+
+    pub high_falls : cl.1 + cr.1 < i + j
+    high_falls = by (least_is (slot_of a) (slot_of b))
+      where
+        by : (min (slot_of a) (slot_of b) ≡ slot_of a) ⊎ (min (slot_of a) (slot_of b) ≡ slot_of b) → cl.1 + cr.1 < i + j
+        by (inl e) = omega (arith, left_split.high_below (top_is change left i a left_is a_is ∙ sym e ∙ sym slot_is), right_split.high_within)
+        by (inr e) = omega (arith, right_split.high_below (top_is change right j b right_is b_is ∙ sym e ∙ sym slot_is), left_split.high_within)
+
+    low_least : moved change slot + 1 ≤ least_of change left right cl.0 cr.0
+    low_least = moved_more change slot _ can_be (omega (arith, left_split.low_top, right_split.low_top))
+
+    high_least : moved change slot + 1 ≤ least_of change left right cl.1 cr.1
+    high_least = moved_more change slot _ can_be (omega (arith, left_split.high_top, right_split.high_top))
+
+    least_here : least_of change left right i j ≡ moved change slot
+    least_here = ap (moved change) (tops_are ∙ sym slot_is)
+
+    -- the function at the two, by the children's
+    split_at : (at : Assignment) → function_of connective change left right i j at
+        ≡ cond (changed change at slot) (function_of connective change left right cl.1 cr.1 at)
+        (function_of connective change left right cl.0 cr.0 at)
+    split_at at =
+        (λ x. answer_of connective (left_split.splits (changed change at) x) (right_split.splits (changed change at) x))
+        ∙ answers_split connective (changed change at slot) _ _ _ _
+
+    -- a slot that is placed
+    pub step_placed : (m p q : ℕ) (t u v : List Node) → placed change slot ≡ At m
+        → Adds t p u (least_of change left right cl.0 cr.0) (function_of connective change left right cl.0 cr.0)
+        → Adds u q v (least_of change left right cl.1 cr.1) (function_of connective change left right cl.1 cr.1)
+        → Adds t (joined_place m p q v) (joined_table m p q v) (least_of change left right i j) (function_of connective change left right i j)
+    step_placed m p q t u v at_m low high =
+        let here = placed_at change slot m at_m can_be lt in
+        let low2 : Adds t p u (m + 1) (function_of connective change left right cl.0 cr.0) = Adds-as (omega (arith, low_least, here.0)) (λ at. refl) low in
+        let high2 : Adds u q v (m + 1) (function_of connective change left right cl.1 cr.1) = Adds-as (omega (arith, high_least, here.0)) (λ at. refl) high in
+        let joins : (at : Assignment) → function_of connective change left right i j at
+        ≡ cond (at m) (function_of connective change left right cl.1 cr.1 at)
+        (function_of connective change left right cl.0 cr.0 at) =
+        λ at. split_at at ∙ ap (λ c. cond c (function_of connective change left right cl.1 cr.1 at)
+        (function_of connective change left right cl.0 cr.0 at)) (here.2 at) in
+        Adds-as (omega (arith, least_here, here.0)) (λ at. refl) (Adds-join low2 high2 here.1 joins)
+
+    -- a slot that is fixed
+    pub step_true : (p : ℕ) (t u : List Node) → placed change slot ≡ Fixed true
+        → Adds t p u (least_of change left right cl.1 cr.1) (function_of connective change left right cl.1 cr.1)
+        → Adds t p u (least_of change left right i j) (function_of connective change left right i j)
+    step_true p t u is done =
+        let here = placed_fixed change slot true is in
+        Adds-as (omega (arith, least_here, high_least)) (λ at. sym (split_at at ∙ ap (λ c. cond c (function_of connective change left right cl.1 cr.1 at)
+        (function_of connective change left right cl.0 cr.0 at)) (here.1 at))) done
+
+    pub step_false : (p : ℕ) (t u : List Node) → placed change slot ≡ Fixed false
+        → Adds t p u (least_of change left right cl.0 cr.0) (function_of connective change left right cl.0 cr.0)
+        → Adds t p u (least_of change left right i j) (function_of connective change left right i j)
+    step_false p t u is done =
+        let here = placed_fixed change slot false is in
+        Adds-as (omega (arith, least_here, low_least)) (λ at. sym (split_at at ∙ ap (λ c. cond c (function_of connective change left right cl.1 cr.1 at)
+        (function_of connective change left right cl.0 cr.0 at)) (here.1 at))) done
+
+-- what is noted stays true as the table grows
+pub memo_grown : {S : Type 0} (connective : Connective) (change : Change) (left right : List Node) (memo : IndexMap Pair ℕ S) (t u : List Node)
+    → IsGrown t u → IsMemo connective change left right memo t → IsMemo connective change left right memo u
+memo_grown connective change left right memo t u g m = record { noted = λ pair place e. Answers-grown g (m.noted pair place e) }
+
+both_true : (a b : Bool) → (a && b) ≡ true → (a ≡ true) × (b ≡ true)
+both_true true b h = (refl, h)
+both_true false b h = absurd (true≢false (sym h))
+
+number_is : (a b : ℕ) → nat_eq a b ≡ true → a ≡ b
+number_is a b h = grind (arith, nat_tests)
+
+pair_is : (a b : Pair) → same_pair a b ≡ true → a ≡ b
+pair_is a b h =
+    let p = both_true (nat_eq a.left b.left) (nat_eq a.right b.right) h in
+    (λ x. record { left = number_is a.left b.left p.0 x; right = number_is a.right b.right p.1 x })
+
+some_is : (a b : ℕ) → Some a ≡ Some b → a ≡ b
+some_is a b h = cc
+
+-- a pair is noted
+pub memo_noted : {S : Type 0} (connective : Connective) (change : Change) (left right : List Node) (old new : IndexMap Pair ℕ S) (t : List Node) (pair : Pair) (place : ℕ)
+    → IsMemo connective change left right old t → Updates same_pair old new pair (Some place)
+    → Answers t place (least_of change left right pair.left pair.right) (function_of connective change left right pair.left pair.right)
+    → IsMemo connective change left right new t
+memo_noted {S} connective change left right old new t pair place m up here = record { noted = λ q k e. by q k e (same_pair pair q) refl }
+  where
+    by : (q : Pair) (k : ℕ) → get same_pair new q ≡ Some k → (b : Bool) → same_pair pair q ≡ b
+        → Answers t k (least_of change left right q.left q.right) (function_of connective change left right q.left q.right)
+    by q k e true h =
+        let same = pair_is pair q h in
+        let k_is : place ≡ k = some_is place k (sym up.1 ∙ ap (get same_pair new) same ∙ e) in
+        let P : Pair → Type 0 = λ p. Answers t k (least_of change left right p.left p.right) (function_of connective change left right p.left p.right) in
+        subst P same (subst (λ n. Answers t n (least_of change left right pair.left pair.right) (function_of connective change left right pair.left pair.right)) k_is here)
+    by q k e false h = m.noted q k (sym (up.2 q h) ∙ e)
+
+-- facts on a result's value, taken together
+pub ok_both : {A E : Type 0} (P Q R : A → Type 0) → ((a : A) → P a → Q a → R a) → (r : Result A E) → IfOk r P → IfOk r Q → IfOk r R
+ok_both P Q R f (Ok a) p q = f a p q
+ok_both P Q R f (Err e) p q = p
+
+pub ok_from : {A E : Type 0} (P : A → Type 0) (R : Type 0) → ((a : A) → P a → R) → (r : Result A E) → IfOk r P → OnOk r R
+ok_from P R f (Ok a) p = f a p
+ok_from P R f (Err e) p = tt
+
+pub ok_then : {A E : Type 0} (P R : A → Type 0) → ((a : A) → P a → R a) → (r : Result A E) → IfOk r P → IfOk r R
+ok_then P R f (Ok a) p = f a p
+ok_then P R f (Err e) p = tt
+
+pub placed_ok : {E : Type 0} {t v : List Node} {k least : ℕ} {f : Assignment → Bool} (u : List Node) (r : Result ℕ E) → IfOk r (λ p. p ≡ k) → OnOk r (u ≡ v) → Adds t k v least f
+    → IfOk r (λ p. Adds t p u least f)
+placed_ok {E} {t} {v} {k} {least} {f} u (Ok p) e s a =
+    let P : List Node → Type 0 = λ w. Adds t p w least f in
+    subst P (sym s) (subst (λ n. Adds t n v least f) (sym e) a)
+placed_ok u (Err x) e s a = tt
+
+pub memo_ok : {E S : Type 0} (connective : Connective) (change : Change) (left right : List Node) (memo : IndexMap Pair ℕ S) (t u v : List Node) (r : Result ℕ E) → OnOk r (u ≡ v)
+    → IsGrown t v → IsMemo connective change left right memo t → OnOk r (IsMemo connective change left right memo u)
+memo_ok connective change left right memo t u v (Ok p) s g m = let P : List Node → Type 0 = λ w. IsMemo connective change left right memo w in subst P (sym s) (memo_grown connective change left right memo t v g m)
+memo_ok connective change left right memo t u v (Err x) s g m = tt
+
+pub join_grown : (slot low high : ℕ) (t : List Node) → IsGrown t (joined_table slot low high t)
+join_grown slot low high t =
+    elim (nat_eq low high) as (λ b. IsGrown t (cond b t (put (Branch slot low high) t))) [ true ↦ IsGrown-same t | false ↦ put_grown t (Branch slot low high) ]

@@ -1,0 +1,188 @@
+ghost use Rattle.std.specs.Prelude.{◌≡◌, ◌<◌, ◌≤◌, Bool, IfOk, OnOk, Some, length, get_or, min, nat_eq};
+ghost use Rattle.std.specs.List.{list_any};
+ghost use Rattle.indexmap.specs.IndexMap.{get, Updates};
+ghost use Rattle.indexmap.specs.IndexSet.{keys};
+ghost use Rattle.plai_bdd.specs.Table.{Adds, IsMemo, IsSource, IsTable, children_of, function_of, joined_place, joined_table, least_of, no_node, same_pair, slot_of as slot_of_node, leaf_answer as leaf_answer_of};
+
+use crate::change::{Change, Connective, Placed};
+use crate::node::Node;
+use crate::table::place;
+use indexmap::{IndexMap, IndexSet};
+use std::alloc::AllocError;
+
+/// Two places, one in each list.
+#[derive(Clone, Copy, Debug, PartialEq, Eq, Hash)]
+pub struct Pair {
+    pub left: usize,
+    pub right: usize,
+}
+
+/// The children of a node where its slot is this one, and else its own place twice.
+pub fn children(node: Node, slot: u32, place: usize) -> (usize, usize)
+    ensures { result ≡ children_of node slot place }
+{
+    match node {
+        Node::Leaf(_) => (place, place),
+        Node::Branch {
+            slot: top,
+            low,
+            high,
+        } => {
+            if top == slot {
+                (low, high)
+            } else {
+                (place, place)
+            }
+        }
+    }
+}
+
+/// The place of a function whose answers with the slot false and true are at the two places.
+fn join(table: &mut IndexSet<Node>, slot: u32, low: usize, high: usize) -> Result<usize, AllocError>
+    ensures place { IfOk result (λ place. place ≡ joined_place slot low high (keys table.old)) }
+    ensures table { OnOk result (keys table.new ≡ joined_table slot low high (keys table.old)) }
+{
+    if low == high {
+        Ok(low)
+    } else {
+        place(table, Node::Branch { slot, low, high })
+    }
+}
+
+/// The node at a place.
+pub fn node_at(nodes: &[Node], place: usize) -> Node
+    requires { place < length nodes.now }
+    ensures { result ≡ get_or nodes.now place no_node }
+{
+    nodes[place]
+}
+
+/// The slot of a branch, and 64 of a leaf.
+pub fn slot_of(node: Node) -> u32
+    ensures { result ≡ slot_of_node node }
+{
+    match node {
+        Node::Leaf(_) => 64,
+        Node::Branch { slot, .. } => slot,
+    }
+}
+
+/// Whether some node is a branch on the slot, which is below 64.
+pub fn has_branch(nodes: &[Node], slot: u32) -> bool
+    ensures { result ≡ list_any (λ node. nat_eq (slot_of_node node) slot) nodes.now }
+{
+    nodes.iter().any(|node| slot_of(*node) == slot)
+}
+
+/// The lesser slot of two nodes.
+pub fn first_slot(a: Node, b: Node) -> u32
+    ensures { result ≡ min (slot_of_node a) (slot_of_node b) }
+{
+    slot_of(a).min(slot_of(b))
+}
+
+/// Where the function of a pair is, if that is noted.
+fn recall(memo: &IndexMap<Pair, usize>, pair: Pair) -> Option<usize>
+    ensures { result ≡ get same_pair memo.now pair }
+{
+    memo.get(&pair).copied()
+}
+
+/// Notes where the function of a pair is.
+fn note(memo: &mut IndexMap<Pair, usize>, pair: Pair, place: usize) -> Result<(), AllocError>
+    ensures { OnOk result (Updates same_pair memo.old memo.new pair (Some place)) }
+{
+    memo.insert(pair, place)?;
+    Ok(())
+}
+
+/// The answer of a leaf. A branch has none, and gives false.
+pub fn leaf_answer(node: Node) -> bool
+    ensures { result ≡ leaf_answer_of node }
+{
+    match node {
+        Node::Leaf(answer) => answer,
+        Node::Branch { .. } => false,
+    }
+}
+
+/// Adds the function of a pair, and notes where it is.
+#[cycle(combine)]
+pub fn combine(
+    connective: Connective,
+    change: Change,
+    left: &[Node],
+    right: &[Node],
+    pair: Pair,
+    table: &mut IndexSet<Node>,
+    memo: &mut IndexMap<Pair, usize>,
+) -> Result<usize, AllocError>
+    requires left_is { IsSource change left.now pair.left }
+    requires right_is { IsSource change right.now pair.right }
+    requires table_is { IsTable (keys table.old) }
+    requires memo_is { IsMemo connective change left.now right.now memo.old (keys table.old) }
+    ensures added { IfOk result (λ place. Adds (keys table.old) place (keys table.new)
+        (least_of change left.now right.now pair.left pair.right) (function_of connective change left.now right.now pair.left pair.right)) }
+    ensures noted { OnOk result (IsMemo connective change left.now right.now memo.new (keys table.new)) }
+{
+    if let Some(known) = recall(memo, pair) {
+        return Ok(known);
+    }
+    let place = combine_new(connective, change, left, right, pair, table, memo)?;
+    note(memo, pair, place)?;
+    Ok(place)
+}
+
+/// Adds the function of a pair of which nothing is noted.
+#[cycle(combine)]
+fn combine_new(
+    connective: Connective,
+    change: Change,
+    left: &[Node],
+    right: &[Node],
+    pair: Pair,
+    table: &mut IndexSet<Node>,
+    memo: &mut IndexMap<Pair, usize>,
+) -> Result<usize, AllocError>
+    requires left_is { IsSource change left.now pair.left }
+    requires right_is { IsSource change right.now pair.right }
+    requires table_is { IsTable (keys table.old) }
+    requires memo_is { IsMemo connective change left.now right.now memo.old (keys table.old) }
+    ensures added { IfOk result (λ place. Adds (keys table.old) place (keys table.new)
+        (least_of change left.now right.now pair.left pair.right) (function_of connective change left.now right.now pair.left pair.right)) }
+    ensures noted { OnOk result (IsMemo connective change left.now right.now memo.new (keys table.new)) }
+{
+    let a = node_at(left, pair.left);
+    let b = node_at(right, pair.right);
+    let slot = first_slot(a, b);
+    if slot == 64 {
+        return place(
+            table,
+            Node::Leaf(connective.answer(leaf_answer(a), leaf_answer(b))),
+        );
+    }
+    let (left_low, left_high) = children(a, slot, pair.left);
+    let (right_low, right_high) = children(b, slot, pair.right);
+    let low = Pair {
+        left: left_low,
+        right: right_low,
+    };
+    let high = Pair {
+        left: left_high,
+        right: right_high,
+    };
+    match change.place(slot) {
+        Placed::Fixed(answer) => {
+            if answer {
+                combine(connective, change, left, right, high, table, memo)
+            } else {
+                combine(connective, change, left, right, low, table, memo)
+            }
+        }
+        Placed::At(moved) => {
+            let low_place = combine(connective, change, left, right, low, table, memo)?;
+            let high_place = combine(connective, change, left, right, high, table, memo)?;
+            join(table, moved, low_place, high_place)
+        }
+    }
+}

@@ -1,0 +1,6 @@
+pub mod Names
+pub mod Lawful
+pub mod Facts
+pub mod One
+pub mod Example
+pub mod Over

@@ -1,0 +1,5 @@
+use Rattle.plai_eval.proofs.Over.{over_is}
+use Rattle.plai_eval.proofs.laws.first_sets_are_sets.Goals as goal
+
+pub returns : goal.returns
+returns g c = over_is g.T.AnyPlainDomain.plain

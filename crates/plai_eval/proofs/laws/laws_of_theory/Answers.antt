@@ -1,0 +1,10 @@
+use Rattle.plai_eval.proofs.One.{strict}
+use Rattle.plai_eval.proofs.Lawful.{lawful_at, limits_at}
+use Rattle.plai_eval.proofs.laws.laws_of_theory.Goals as goal
+
+pub returns : goal.returns
+returns g c = record {
+  domain = λ laws program. lawful_at g.T.AnyPlainDomain.plain laws program;
+  limits = λ laws program. limits_at g.T.AnyPlainDomain.plain laws program;
+  order = strict g.T.AnyPlainDomain.plain;
+}

@@ -1,0 +1,5 @@
+pub mod Meaning
+pub mod Evaluation
+pub mod LeastTable
+pub mod Facts
+pub mod Stops

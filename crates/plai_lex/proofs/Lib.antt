@@ -1,0 +1,6 @@
+mod Comments
+mod DigitRuns
+mod Examples
+mod QuotedItems
+mod TokenLists
+mod TokenPieces

@@ -1,0 +1,7 @@
+pub mod Equal
+pub mod Literals
+pub mod Marking
+pub mod Merging
+pub mod Placed
+pub mod Refined
+pub mod Sorted

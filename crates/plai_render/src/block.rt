@@ -1,0 +1,75 @@
+ghost use Rattle.std.specs.Prelude.{◌≡◌, ◌≤◌, ◌∷◌, [], ◌++◌, All, OnOk, OnErr, codes, decimal, flat_map};
+ghost use Rattle.plai_render.specs.Block.{pred_text, row_text, block_text};
+ghost use Rattle.plai_render.specs.Order.{IsNarrow};
+
+use itoa::Buffer;
+use plai_terms::{PlainRow, PredKey, print_abs, print_name};
+use std::alloc::{AllocError, Global};
+
+// A part of the text may have been appended after want of memory in the calls that begin with `write_`.
+
+fn write_pred(alloc: Global, pred: &PredKey, out: &mut Vec<u8>) -> Result<(), AllocError>
+    ensures { OnOk result (out.new.items ≡ out.old.items ++ pred_text pred.now) }
+{
+    print_name(alloc, &pred.module, out)?;
+    out.push(b':')?;
+    print_name(alloc, &pred.name, out)?;
+    out.push(b'/')?;
+    let mut buffer = Buffer::new();
+    out.extend_from_slice(buffer.format(pred.arity).as_bytes())
+}
+
+fn write_row(alloc: Global, row: &PlainRow, out: &mut Vec<u8>) -> Result<(), AllocError>
+    requires { IsNarrow row.now }
+    ensures { OnOk result (out.new.items ≡ out.old.items ++ row_text row.now) }
+{
+    out.extend_from_slice(b"row ")?;
+    write_pred(alloc, &row.name.pred, out)?;
+    out.extend_from_slice(b" call ")?;
+    print_abs(alloc, &row.name.call, out)?;
+    out.extend_from_slice(b" answer ")?;
+    print_abs(alloc, &row.answer, out)?;
+    out.push(b'\n')?;
+    Ok(())
+}
+
+fn write_rows(alloc: Global, rows: &[PlainRow], out: &mut Vec<u8>) -> Result<(), AllocError>
+    requires { All IsNarrow rows.now }
+    ensures { OnOk result (out.new.items ≡ out.old.items ++ flat_map row_text rows.now) }
+{
+    for row in rows {
+        write_row(alloc, row, out)?;
+    }
+    Ok(())
+}
+
+fn write_head(number: u64, out: &mut Vec<u8>) -> Result<(), AllocError>
+    ensures { OnOk result (out.new.items ≡ out.old.items ++ codes "edit " ++ decimal number ++ 10 ∷ []) }
+{
+    out.extend_from_slice(b"edit ")?;
+    let mut buffer = Buffer::new();
+    out.extend_from_slice(buffer.format(number).as_bytes())?;
+    out.push(b'\n')?;
+    Ok(())
+}
+
+/// Appends the block of a table: the line `edit K` with the number K, a line `row M:P/A call C answer R`
+/// for each row, in the order given, and the line `end`. Arguments are numbered from 1.
+///
+/// After want of memory `out` is as before.
+pub fn render_table(
+    alloc: Global,
+    number: u64,
+    rows: &[PlainRow],
+    out: &mut Vec<u8>,
+) -> Result<(), AllocError>
+    requires { All IsNarrow rows.now }
+    ensures ok { OnOk result (out.new.items ≡ out.old.items ++ block_text number rows.now) }
+    ensures err { OnErr result (out.new.items ≡ out.old.items) }
+{
+    let mut text = Vec::new(alloc);
+    write_head(number, &mut text)?;
+    write_rows(alloc, rows, &mut text)?;
+    text.extend_from_slice(b"end\n")?;
+    out.extend_from_slice(&text)
+}

@@ -1,0 +1,15 @@
+//! Tables as text: rows as plain values, their order, and the block of lines that they print as.
+#![tactic(auto)]
+
+mod block;
+mod keyed;
+mod laws;
+mod order;
+
+pub use block::render_table;
+pub use laws::distinct_names_are_apart;
+pub use order::sort_rows;
+pub use plai_terms::PlainRow;
+
+#[cfg(test)]
+mod tests;

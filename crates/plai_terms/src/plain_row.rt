@@ -1,0 +1,10 @@
+use crate::abs::Abs;
+use crate::row_name::RowName;
+
+/// A row of a table: a predicate with a pattern of its calls, and the pattern of the answers to these calls, which is
+/// `Abs::Nothing` where there is none.
+#[derive(Debug, Drop)]
+pub struct PlainRow {
+    pub name: RowName,
+    pub answer: Abs,
+}
