@@ -1,10 +1,17 @@
 -- From the phases of reading to the outcomes.
-use Rattle.std.proofs.Common.{◌≡◌, ◌≢◌, ◌≤◌, ◌⊎◌, ℕ, List, [], None, Some, Result, Ok, Err, IfSome, IfErr, OnOk, MatchResult, length, ap, inl, inr}
+use Rattle.std.proofs.Common.{◌≡◌, ◌≢◌, ◌≤◌, ◌⊎◌, ℕ, List, [], ◌++◌, None, Some, IfSome, length, refl, sym, ap, ◌∙◌, inl, inr}
 use Rattle.std.specs.declared.option.Option.{Option}
 use Rattle.plai_base.specs.Texts.{TextMap, text_of, longest_text}
 use Rattle.plai.proofs.Outcomes.{takes_nothing_early, early_is_one}
-use Rattle.plai.specs.Form.{IsTaken}
-use Rattle.plai.specs.Outcome.{silent, IsEarly, no_command, too_long, not_taken, TakesFile, IsReady, IsOutcome, early, scripted}
+use Rattle.plai_terms.specs.declared.plain_row.PlainRow.{PlainRow}
+use Rattle.plai_assignments.specs.Groundness.{groundness}
+use Rattle.plai_eval.specs.LeastTable.{IsLeastTable}
+use Rattle.plai_render.specs.Block.{block_text}
+use Rattle.plai.specs.FactRows.{program_of}
+use Rattle.plai_facts.specs.declared.facts.Facts.{Facts}
+use Rattle.plai_facts.specs.File.{IsFile}
+use Rattle.plai.specs.Form.{TakesFile}
+use Rattle.plai.specs.Outcome.{silent, IsEarly, no_command, too_long, not_taken, IsReady, IsOutcome, early, scripted, table, done}
 use Rattle.plai.specs.Stops.{status_of, IsReadEnd, IsFileStop, StopsEarly, NothingEarly}
 use Rattle.plai.specs.Told.{IfBothTold}
 use Rattle.plai.specs.Words.{named_file}
@@ -61,25 +68,65 @@ file_ends_early words (Some map) name stop P named (inr is) cause = decided_earl
 
 -- ---- the file is taken, and the script decides
 
-takes : (words : List (List ℕ)) (map : TextMap) (name : List ℕ) → named_file words ≡ Some name → length (text_of map name) ≤ longest_text → IsTaken (text_of map name) → TakesFile words map
-takes words map name file_named is_short is_taken = record { name = name; named = file_named; short = is_short; taken = is_taken }
+module _ (words : List (List ℕ)) (name : List ℕ) (facts : Facts) (file_named : named_file words ≡ Some name) where
+  takes : (map : TextMap) → length (text_of map name) ≤ longest_text → IsFile (text_of map name) facts → TakesFile words map facts
+  takes map is_short is_taken = record { name = name; named = file_named; short = is_short; taken = is_taken }
 
-pub script_decides_outcome : (words : List (List ℕ)) (files : Option TextMap) (left : Option (List ℕ)) (name : List ℕ) (result : Result (Unit {0}) Stop) → named_file words ≡ Some name
-    → IfSome files (λ map. length (text_of map name) ≤ longest_text) → IfSome files (λ map. IsTaken (text_of map name))
-    → OnOk result (IfSome left (λ text. text ≡ []))
-    → IfErr result (λ stop. IsReadEnd stop ⊎ ((stop ≡ NotBuilt) × IfSome left (λ text. text ≢ [])))
-    → IfBothTold files left (λ map text. MatchResult result (λ _. IsReady words map text) (λ stop. IsReadEnd stop ⊎ IsOutcome words map text (silent (status_of stop))))
-script_decides_outcome words None left name result named short taken ok err = tt
-script_decides_outcome words (Some map) None name result named short taken ok err = tt
-script_decides_outcome words (Some map) (Some text) name (Ok x) named short taken ok err =
-    record { file = takes words map name named short taken; empty = ok }
-script_decides_outcome words (Some map) (Some text) name (Err stop) named short taken ok (inl fault) = inl fault
-script_decides_outcome words (Some map) (Some text) name (Err stop) named short taken ok (inr (is, some)) =
-    inr (rw is (scripted (takes words map name named short taken) some))
+  module _ (files : Option TextMap) (short : IfSome files (λ map. length (text_of map name) ≤ longest_text)) (taken : IfSome files (λ map. IsFile (text_of map name) facts)) where
+    pub ready_outcome : (left : Option (List ℕ)) → IfSome left (λ text. text ≡ []) → IfBothTold files left (λ map text. IsReady words map text facts)
+    ready_outcome left empty = both files left short taken empty
+      where
+        both : (files : Option TextMap) (left : Option (List ℕ)) → IfSome files (λ map. length (text_of map name) ≤ longest_text) → IfSome files (λ map. IsFile (text_of map name) facts)
+            → IfSome left (λ text. text ≡ []) → IfBothTold files left (λ map text. IsReady words map text facts)
+        both None left short taken none = tt
+        both (Some map) None short taken none = tt
+        both (Some map) (Some text) short taken none = record { file = takes map short taken; empty = none }
 
-pub script_decides_early : (words : List (List ℕ)) (files : Option TextMap) (name : List ℕ) (result : Result (Unit {0}) Stop) (P : Type 0) → named_file words ≡ Some name
-    → IfSome files (λ map. length (text_of map name) ≤ longest_text) → IfSome files (λ map. IsTaken (text_of map name))
-    → IfSome files (λ map. MatchResult result (λ _. NothingEarly words map) (λ stop. StopsEarly words map stop P))
-script_decides_early words None name result P named short taken = tt
-script_decides_early words (Some map) name (Ok x) P named short taken = takes_nothing_early words map (takes words map name named short taken)
-script_decides_early words (Some map) name (Err stop) P named short taken = λ outcome is. absurd (takes_nothing_early words map (takes words map name named short taken) outcome is)
+    pub scripted_outcome : (left : Option (List ℕ)) (stop : Stop) → IsReadEnd stop ⊎ ((stop ≡ NotBuilt) × IfSome left (λ text. text ≢ []))
+        → IfBothTold files left (λ map text. IsReadEnd stop ⊎ IsOutcome words map text (silent (status_of stop)))
+    scripted_outcome left stop ends = both files left short taken ends
+      where
+        both : (files : Option TextMap) (left : Option (List ℕ)) → IfSome files (λ map. length (text_of map name) ≤ longest_text) → IfSome files (λ map. IsFile (text_of map name) facts)
+            → IsReadEnd stop ⊎ ((stop ≡ NotBuilt) × IfSome left (λ text. text ≢ []))
+            → IfBothTold files left (λ map text. IsReadEnd stop ⊎ IsOutcome words map text (silent (status_of stop)))
+        both None left short taken ends = tt
+        both (Some map) None short taken ends = tt
+        both (Some map) (Some text) short taken (inl read) = inl read
+        both (Some map) (Some text) short taken (inr (is, some)) = inr (rw is (scripted facts (takes map short taken) some))
+
+    pub taken_nothing : IfSome files (λ map. NothingEarly words map)
+    taken_nothing = one files short taken
+      where
+        one : (files : Option TextMap) → IfSome files (λ map. length (text_of map name) ≤ longest_text) → IfSome files (λ map. IsFile (text_of map name) facts)
+            → IfSome files (λ map. NothingEarly words map)
+        one None short taken = tt
+        one (Some map) short taken = takes_nothing_early words map facts (takes map short taken)
+
+-- nothing is decided early, whatever stops the call
+pub nothing_stops : (words : List (List ℕ)) (files : Option TextMap) (stop : Stop) (P : Type 0) → IfSome files (λ map. NothingEarly words map)
+    → IfSome files (λ map. StopsEarly words map stop P)
+nothing_stops words None stop P nothing = tt
+nothing_stops words (Some map) stop P nothing = λ outcome is. absurd (nothing outcome is)
+
+-- ---- the table
+
+pub table_outcome : (words : List (List ℕ)) (files : Option TextMap) (left : Option (List ℕ)) (facts : Facts) (bytes : List ℕ)
+    → IfBothTold files left (λ map text. IsReady words map text facts)
+    → (rows : List PlainRow) × IsLeastTable groundness (program_of facts) rows × (bytes ≡ block_text 0 rows)
+    → IfBothTold files left (λ map text. IsOutcome words map text (done bytes))
+table_outcome words None left facts bytes ready made = tt
+table_outcome words (Some map) None facts bytes ready made = tt
+table_outcome words (Some map) (Some text) facts bytes ready (rows, least, is) = rw is (table facts rows ready least)
+
+pub table_is_some : (facts : Facts) (bytes : List ℕ) → (rows : List PlainRow) × IsLeastTable groundness (program_of facts) rows × (bytes ≡ block_text 0 rows) → bytes ≢ []
+table_is_some facts bytes (rows, least, is) none = let e : block_text 0 rows ≡ [] = sym is ∙ none in cc
+
+pub memory_outcome : (words : List (List ℕ)) (files : Option TextMap) (left : Option (List ℕ))
+    → IfBothTold files left (λ map text. IsReadEnd Memory ⊎ IsOutcome words map text (silent 7))
+memory_outcome words None left = tt
+memory_outcome words (Some map) None = tt
+memory_outcome words (Some map) (Some text) = inl (inr refl)
+
+-- what was appended to nothing is the block
+pub rendered : (rows seen : List PlainRow) (old new : List ℕ) → new ≡ old ++ block_text 0 seen → old ≡ [] → seen ≡ rows → new ≡ block_text 0 rows
+rendered rows seen old new is none same = is ∙ ap (λ xs. xs ++ block_text 0 seen) none ∙ ap (block_text 0) same

@@ -1,35 +1,56 @@
 -- What a read file and a read script say.
-use Rattle.std.proofs.Common.{◌≡◌, ◌≢◌, ℕ, ◌+◌, ◌<◌, ◌≤◌, List, [], ◌∷◌, ◌++◌, true, false, None, Some, IfSome, length, refl, sym, ap, ◌∙◌, arith}
-use Rattle.std.proofs.lemmas.Bool.{false≢true}
+use Rattle.std.proofs.Common.{◌≡◌, ◌≢◌, ℕ, ◌<◌, ◌≤◌, ◌⊎◌, List, [], ◌∷◌, ◌++◌, None, Some, Result, Ok, Err, IfSome, IfOk, IfErr, OnOk, length, refl, sym, ap, ◌∙◌, subst, arith, inl, inr}
 use Rattle.std.specs.declared.option.Option.{Option}
 use Rattle.plai_base.specs.Texts.{TextMap, text_of, longest_text}
-use Rattle.plai.specs.Form.{is_module_text, IsTaken}
-use Rattle.plai.specs.Stops.{IsFileStop}
-use Rattle.plai.specs.declared.stop.Stop.TheVariants.{NotBuilt}
+use Rattle.plai_facts.specs.declared.facts.Facts.{Facts}
+use Rattle.plai_facts.specs.File.{IsFile}
+use Rattle.plai.specs.Form.{IsNoFile}
+use Rattle.plai.specs.Stops.{IsReadEnd, IsFileStop}
+use Rattle.plai.specs.declared.stop.Stop.{Stop}
+use Rattle.plai.specs.declared.stop.Stop.TheVariants.{TooLong, Memory, NotBuilt}
+
+-- ---- the text of a file
 
 -- what was appended to nothing is the text of the name
-pub text_seen : (files : Option TextMap) (name old new seen : List ℕ) → IfSome files (λ map. new ≡ old ++ text_of map name) → old ≡ [] → seen ≡ new
-    → IfSome files (λ map. seen ≡ text_of map name)
-text_seen None name old new seen text none same = tt
-text_seen (Some map) name old new seen text none same = same ∙ text ∙ ap (λ xs. xs ++ text_of map name) none
+pub text_read : (files : Option TextMap) (name old new : List ℕ) → IfSome files (λ map. new ≡ old ++ text_of map name) → old ≡ []
+    → IfSome files (λ map. new ≡ text_of map name)
+text_read None name old new text none = tt
+text_read (Some map) name old new text none = text ∙ ap (λ xs. xs ++ text_of map name) none
 
-pub seen_short : (files : Option TextMap) (name old new : List ℕ) → IfSome files (λ map. new ≡ old ++ text_of map name) → old ≡ [] → length new ≤ length old + longest_text
-    → IfSome files (λ map. length (text_of map name) ≤ longest_text)
-seen_short None name old new text none bound = tt
-seen_short (Some map) name old new text none bound =
-    let whole : new ≡ text_of map name = text ∙ ap (λ xs. xs ++ text_of map name) none in
-    omega (arith, ap length whole, ap length none)
+-- ---- the facts of a text
 
-pub seen_taken : (files : Option TextMap) (name seen : List ℕ) → IfSome files (λ map. seen ≡ text_of map name) → true ≡ is_module_text seen
-    → IfSome files (λ map. IsTaken (text_of map name))
-seen_taken None name seen is taken = tt
-seen_taken (Some map) name seen is taken = ap is_module_text (sym is) ∙ sym taken
+pub text_short : (files : Option TextMap) (name text : List ℕ) (result : Result Facts Stop) → IfSome files (λ map. text ≡ text_of map name) → length text ≤ longest_text
+    → OnOk result (IfSome files (λ map. length (text_of map name) ≤ longest_text))
+text_short files name text (Err stop) is short = tt
+text_short None name text (Ok facts) is short = tt
+text_short (Some map) name text (Ok facts) is short = subst (λ bytes. length bytes ≤ longest_text) is short
 
-pub seen_refused : (files : Option TextMap) (name seen : List ℕ) → IfSome files (λ map. seen ≡ text_of map name) → false ≡ is_module_text seen
-    → IfSome files (λ map. length (text_of map name) ≤ longest_text) → IfSome files (λ map. IsFileStop (text_of map name) NotBuilt)
-seen_refused None name seen is refused short = tt
-seen_refused (Some map) name seen is refused short =
-    (short, λ taken. false≢true (refused ∙ ap is_module_text is ∙ taken))
+pub text_taken : (files : Option TextMap) (name text seen : List ℕ) (result : Result Facts Stop) → IfSome files (λ map. text ≡ text_of map name) → seen ≡ text
+    → IfOk result (λ facts. IsFile seen facts) → IfOk result (λ facts. IfSome files (λ map. IsFile (text_of map name) facts))
+text_taken files name text seen (Err stop) is same taken = tt
+text_taken None name text seen (Ok facts) is same taken = tt
+text_taken (Some map) name text seen (Ok facts) is same taken = subst (λ bytes. IsFile bytes facts) (same ∙ is) taken
+
+pub text_stops : (files : Option TextMap) (name text seen : List ℕ) (result : Result Facts Stop) → IfSome files (λ map. text ≡ text_of map name) → seen ≡ text
+    → length text ≤ longest_text → IfErr result (λ stop. (stop ≡ Memory) ⊎ ((stop ≡ NotBuilt) × IsNoFile seen))
+    → IfErr result (λ stop. IsReadEnd stop ⊎ IfSome files (λ map. IsFileStop (text_of map name) stop))
+text_stops files name text seen (Ok facts) is same short ends = tt
+text_stops files name text seen (Err stop) is same short (inl memory) = inl (inr memory)
+text_stops None name text seen (Err stop) is same short (inr ends) = inr tt
+text_stops (Some map) name text seen (Err stop) is same short (inr (built, none)) =
+    let refused : IsFileStop (text_of map name) NotBuilt = (subst (λ bytes. length bytes ≤ longest_text) is short, subst IsNoFile (same ∙ is) none) in
+    inr (rw built refused)
+
+-- ---- a file that is too long
+
+pub long_stops : (files : Option TextMap) (name : List ℕ) (stop : Stop)
+    → IsReadEnd stop ⊎ ((stop ≡ TooLong) × IfSome files (λ map. longest_text < length (text_of map name)))
+    → IsReadEnd stop ⊎ IfSome files (λ map. IsFileStop (text_of map name) stop)
+long_stops files name stop (inl read) = inl read
+long_stops None name stop (inr ends) = inr tt
+long_stops (Some map) name stop (inr (is, long)) = inr (rw is long)
+
+-- ---- the script
 
 -- what was read to the end of a script, behind nothing
 pub empty_script : (left : Option (List ℕ)) (old new : List ℕ) → IfSome left (λ text. new ≡ old ++ text) → old ≡ [] → length new ≡ 0

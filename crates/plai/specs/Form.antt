@@ -1,19 +1,17 @@
--- Which files are taken: the module directive alone, with layout behind it (ISO/IEC 13211-1:1995, 7.4.2).
-use Rattle.std.specs.Prelude.{ℕ, List, Bool, ◌&&◌, ◌||◌, ◌==◌, nat_eq, nat_le, IsTrue, length, drop, codes}
-use Rattle.std.specs.List.{starts_with, list_all}
+-- Which words and files are taken: the words name a file, and its text is one of facts and entries.
+use Rattle.std.specs.Prelude.{ℕ, ◌≡◌, ◌≤◌, List, Some, length}
+use Rattle.plai_base.specs.Texts.{TextMap, text_of, longest_text}
+use Rattle.plai_facts.specs.declared.facts.Facts.{Facts}
+use Rattle.plai_facts.specs.File.{IsFile}
+use Rattle.plai.specs.Words.{named_file}
 
--- a tab, a line's end or a space
-abbrev pub is_layout : ℕ → Bool
-is_layout byte = nat_le 9 byte && nat_le byte 13 || byte == 32
+-- the text is that of no file of facts
+abbrev pub IsNoFile : List ℕ → Type 0
+IsNoFile text = (facts : Facts) → ¬ IsFile text facts
 
--- the directive
-abbrev pub module_text : List ℕ
-module_text = codes ":-(module(m,[]))."
-
--- the directive, and layout behind it
-unfoldable pub is_module_text : List ℕ → Bool
-is_module_text text = starts_with nat_eq text module_text && list_all is_layout (drop (length module_text) text)
-
--- a file that is taken
-abbrev pub IsTaken : List ℕ → Type 0
-IsTaken text = IsTrue (is_module_text text)
+-- the words name a file, which isn't too long and has these facts
+pub record TakesFile (words : List (List ℕ)) (files : TextMap) (facts : Facts) : Type 0 where
+  pub name : List ℕ
+  pub named : named_file words ≡ Some name
+  pub short : length (text_of files name) ≤ longest_text
+  pub taken : IsFile (text_of files name) facts

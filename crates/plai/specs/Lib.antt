@@ -1,4 +1,5 @@
 pub mod Ending
+pub mod FactRows
 pub mod Form
 pub mod Outcome
 pub mod Stops

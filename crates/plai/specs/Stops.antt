@@ -1,7 +1,7 @@
 -- What a stop says of a call.
 use Rattle.std.specs.Prelude.{ℕ, ◌≡◌, ◌<◌, ◌≤◌, ◌⊎◌, List, length}
 use Rattle.plai_base.specs.Texts.{TextMap, longest_text}
-use Rattle.plai.specs.Form.{IsTaken}
+use Rattle.plai.specs.Form.{IsNoFile}
 use Rattle.plai.specs.Outcome.{Outcome, IsEarly}
 use Rattle.plai.specs.declared.stop.Stop.{Stop}
 use Rattle.plai.specs.declared.stop.Stop.TheVariants.{NoCommand, TooLong, ReadFault, WriteFault, Memory, NotBuilt}
@@ -22,13 +22,13 @@ IsReadEnd stop = (stop ≡ ReadFault) ⊎ (stop ≡ Memory)
 -- a file of this text stops the call
 abbrev pub IsFileStop : List ℕ → Stop → Type 0
 IsFileStop text TooLong = longest_text < length text
-IsFileStop text NotBuilt = (length text ≤ longest_text) × (IsTaken text → ⊥)
+IsFileStop text NotBuilt = (length text ≤ longest_text) × IsNoFile text
 IsFileStop text NoCommand = ⊥
 IsFileStop text ReadFault = ⊥
 IsFileStop text WriteFault = ⊥
 IsFileStop text Memory = ⊥
 
--- reading a file or the script may end so
+-- reading a file may end so
 abbrev pub IsInputStop : Stop → Type 0
 IsInputStop stop = (stop ≡ TooLong) ⊎ (stop ≡ NotBuilt) ⊎ IsReadEnd stop
 

@@ -1,20 +1,25 @@
 //! An incremental abstract interpreter for Prolog (Muthukumar and Hermenegildo 1992).
 #![tactic(auto)]
 
-ghost use Rattle.std.specs.Prelude.{◌≡◌, ◌<◌};
+ghost use Rattle.std.specs.Prelude.{◌≡◌, ◌<◌, ◌⊎◌, None, IfOk, map, string_bytes};
+ghost use Rattle.plai.specs.Ending.{IsStatus};
+ghost use Rattle.plai.specs.Words.{named_file, texts};
 
-mod form;
+mod answers;
 mod input;
+mod rows;
 mod stop;
+mod table;
 #[cfg(test)]
 mod tests;
 mod top;
+mod words;
 
 use crate::stop::Stop;
 use crate::top::run;
 use plai_base::{FileLibrary, InputSource, OutputSink, Steps};
 use plai_domain::Tally;
-use std::alloc::AllocError;
+use std::alloc::{AllocError, Global};
 use std::env::Env;
 use std::marker::Brand;
 use std::process::ExitCode;
@@ -31,6 +36,17 @@ fn words_of<R: Env + AllocGlobal>(rt: &R) -> io::Result<Vec<String>> {
     Ok(words)
 }
 
+/// The texts of the words.
+fn texts_of<'a>(alloc: Global, words: &'a [String]) -> Result<Vec<&'a str>, AllocError>
+    ensures { IfOk result (λ list. texts list.items ≡ map string_bytes words.now) }
+{
+    let mut list = Vec::new(alloc);
+    for word in words {
+        list.push(word.as_str())?;
+    }
+    Ok(list)
+}
+
 /// Runs the program over the system's files and streams, and counts no steps.
 fn start<L: Ledger, R: Env + Files + Input + Print + AllocGlobal>(
     rt: &R,
@@ -40,8 +56,11 @@ fn start<L: Ledger, R: Env + Files + Input + Print + AllocGlobal>(
     requires name { blank.name ≡ L.name }
     requires parts { blank.parts ≡ L.parts }
     requires some { 0 < blank.parts }
+    ensures known { IfOk result IsStatus }
+    ensures refused { IfOk result (λ status. named_file (map string_bytes words.now) ≡ None → (status ≡ 2) ⊎ (status ≡ 7)) }
+    ensures command { IfOk result (λ status. status ≡ 2 → named_file (map string_bytes words.now) ≡ None) }
 {
-    let words: Vec<&str> = words.iter().map(|word| word.as_str()).collect(rt.alloc())?;
+    let words = texts_of(rt.alloc(), words)?;
     let mut steps = Steps::<L>::new(blank);
     Ok(run(
         rt.alloc(),

@@ -1,0 +1,7 @@
+use Rattle.std.proofs.Common.{◌≡◌, map, take, string_bytes}
+use Rattle.plai.specs.Words.{texts}
+use Rattle.plai.proofs.texts_of.Given as goal
+
+-- the texts so far are those of the words so far
+abbrev pub invariant-loop-word : goal.invariant-loop-word
+invariant-loop-word l = texts l.list.items ≡ map string_bytes (take l.word-index l.words)
