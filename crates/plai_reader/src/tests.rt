@@ -13,7 +13,7 @@ fn tokens_of(alloc: Global, text: &str) -> Result<Vec<Token>, Fail>
 {
     let mut lexer = Lexer::new(text.as_bytes());
     let mut tokens = Vec::new(alloc);
-    for count in 0..300_000 {
+    for count in 0..300_000u32 {
         match lexer.next(alloc)? {
             Some(token) => tokens.push(token)?,
             None => break,
@@ -117,12 +117,12 @@ fn limits(rt: HostRuntime) -> Result<(), Fail> {
         answer(alloc, &ops, text.as_str())?.as_slice(),
         b"a".as_slice()
     );
-    let text = nested(alloc, 100_000, "f(", "a", ")")?;
+    let text = nested(alloc, 10_000, "f(", "a", ")")?;
     assert_eq!(rt;
         answer(alloc, &ops, text.as_str())?.as_slice(),
         b"too deep".as_slice()
     );
-    let text = nested(alloc, 100_000, "f(", "a b", ")")?;
+    let text = nested(alloc, 10_000, "f(", "a b", ")")?;
     assert_eq!(rt;
         answer(alloc, &ops, text.as_str())?.as_slice(),
         b"syntax".as_slice()
