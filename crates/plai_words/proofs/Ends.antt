@@ -8,7 +8,7 @@ use Rattle.plai_words.specs.declared.seen.Place.TheVariants.{Options, Value, Fil
 use Rattle.plai_words.specs.declared.types.DomainName.{DomainName}
 use Rattle.plai_words.specs.declared.types.DomainName.TheVariants.{Ground}
 use Rattle.plai_words.specs.declared.types.Settings.{Settings}
-use Rattle.plai_words.specs.Given.{Given, nothing, both, given}
+use Rattle.plai_words.specs.Given.{Given, nothing, given}
 use Rattle.plai_words.specs.Command.{is_nil, completed, settings_of}
 use Rattle.plai_words.specs.Reading.{finishes}
 use Rattle.plai_words.proofs.Joins.{nothing_more, nothing_before}

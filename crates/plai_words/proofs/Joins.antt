@@ -1,5 +1,5 @@
 -- What the parts of the words say together.
-use Rattle.std.proofs.Common.{◌≡◌, ℕ, List, [], ◌++◌, Option, None, Some, refl, ap, sym, ◌∙◌, append_assoc, append-nil}
+use Rattle.std.proofs.Common.{◌≡◌, Option, None, Some, refl, ap, sym, ◌∙◌, append_assoc, append-nil}
 use Rattle.std.specs.Prelude.{option_and_then}
 use Rattle.plai_words.specs.Given.{Given, nothing, joined, both}
 use Rattle.plai_words.specs.Command.{completed}

@@ -1,5 +1,5 @@
 -- What taking a word leaves.
-use Rattle.std.proofs.Common.{◌≡◌, ℕ, List, [], ◌∷◌, Option, None, Some, true, false, refl}
+use Rattle.std.proofs.Common.{◌≡◌, ℕ, List, None, Some, true, false, refl}
 use Rattle.plai_words.specs.declared.option.Key.{Key}
 use Rattle.plai_words.specs.declared.seen.Place.TheVariants.{Options, Value, Files}
 use Rattle.plai_words.specs.Options.{is_dashed, is_option, is_end, named, attached}

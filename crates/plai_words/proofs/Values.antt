@@ -1,5 +1,5 @@
 -- One more value of an option.
-use Rattle.std.proofs.Common.{◌≡◌, ◌⊎◌, ℕ, List, [], ◌∷◌, ◌++◌, Bool, Option, None, Some, Result, Ok, Err, true, false, refl, append-nil, inl, inr, ap, sym}
+use Rattle.std.proofs.Common.{◌≡◌, ◌⊎◌, ℕ, List, [], ◌∷◌, Bool, Option, None, Some, Result, Ok, Err, true, false, refl, append-nil, inl, inr, ap, sym}
 use Rattle.std.specs.Prelude.{◌&&◌, option_to_list, option_map, is_some, OnErr}
 use Rattle.std.proofs.lemmas.Bool.{false≢true}
 use Rattle.plai_words.specs.declared.types.DomainName.{DomainName}

@@ -1,6 +1,5 @@
 -- How far a reading of the words has come: what the words before said, and what may follow.
 use Rattle.std.specs.Prelude.{ℕ, List, ◌∷◌, Option, None, Some, ◌≡◌, option_to_list, option_and_then}
-use Rattle.plai_words.specs.declared.option.Key.{Key}
 use Rattle.plai_words.specs.declared.seen.Seen.{Seen}
 use Rattle.plai_words.specs.declared.seen.Place.{Place}
 use Rattle.plai_words.specs.declared.seen.Place.TheVariants.{Options, Value, Files}

@@ -1,5 +1,4 @@
-use Rattle.std.proofs.Common.{arith, ◌≡◌, ℕ, ◌+◌, ◌-◌, ◌*◌, ◌^◌, ◌<◌, ◌≤◌, get_or, drop, sym, ◌∙◌}
-use Rattle.plai_words.specs.Numbers.{decimal}
+use Rattle.std.proofs.Common.{arith, get_or, sym, ◌∙◌}
 use Rattle.plai_words.proofs.Digits.{digit_at, digit_range, short_parts, room, decimal_more, decimal_all}
 use Rattle.plai_words.proofs.number.decimal.Goals as goal
 

@@ -1,5 +1,3 @@
-use Rattle.std.proofs.Common.{ap, sym, ◌∙◌, ◌≡◌, Some, None}
-use Rattle.plai_words.specs.Options.{attached}
 use Rattle.plai_words.specs.Reading.{given_of}
 use Rattle.plai_words.proofs.Steps.{option_moves, option_never, option_unknown}
 use Rattle.plai_words.proofs.Values.{on_any}

@@ -1,4 +1,4 @@
-use Rattle.std.proofs.Common.{ap, sym, ◌∙◌, ◌≡◌, true, false}
+use Rattle.std.proofs.Common.{ap, sym, ◌∙◌, ◌≡◌, false}
 use Rattle.plai_words.specs.Options.{is_dashed}
 use Rattle.plai_words.specs.Reading.{given_of}
 use Rattle.plai_words.proofs.Steps.{value_moves, value_dashed, value_never}

@@ -1,4 +1,4 @@
-use Rattle.std.proofs.Common.{ap, sym, ◌∙◌, ◌≡◌, true, false}
+use Rattle.std.proofs.Common.{ap, sym, ◌∙◌}
 use Rattle.plai_words.specs.Options.{is_end, is_option}
 use Rattle.plai_words.specs.Reading.{given_of}
 use Rattle.plai_words.proofs.Steps.{end_moves, file_moves}
