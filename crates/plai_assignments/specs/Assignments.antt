@@ -1,4 +1,5 @@
--- Sets of assignments of truth to slots, the models of positive Boolean functions, for groundness (Cortesi, File and Winsborough 1991; Marriott and Sondergaard 1993).
+-- Sets of assignments of truth to slots, the models of positive Boolean functions, for groundness
+-- (Cortesi, File and Winsborough 1991; Marriott and Sondergaard 1993).
 use Rattle.std.specs.Prelude.{◌≡◌, ℕ, zero, suc, ◌+◌, ◌-◌, ◌/◌, ◌%◌, ◌^◌, Bool, true, false, ◌&&◌, ◌||◌, not, nat_eq, cond, List, [], ◌∷◌, filter, length, Option, Some, None}
 use Rattle.std.specs.List.{list_all}
 use Rattle.plai_base.specs.Mask.{has_slot, all_true}
@@ -96,7 +97,8 @@ excludes_of xs (property.Nonvar i) = false
 excludes_of xs (property.Int i) = false
 excludes_of xs (property.Indep i j) = false
 
--- of a clause with n arguments and v variables: the call on the arguments' slots, new variables, each argument unified with the head's
+-- of a clause with n arguments and v variables: the call on the arguments' slots, new variables, each argument unified
+-- with the head's
 abbrev pub enter_of : ℕ → ℕ → List Term → List ℕ → List ℕ
 enter_of n v head call = unify_all n 0 head (widened n v call)
 

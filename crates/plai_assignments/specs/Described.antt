@@ -1,4 +1,5 @@
--- What tuples of terms and what instances of a clause a set of assignments describes.
+-- What tuples of terms and what instances of a clause a set of assignments describes
+-- (Marriott and Sondergaard 1993).
 use Rattle.std.specs.Prelude.{◌≡◌, ℕ, Bool, true, List, ◌++◌, map}
 use Rattle.plai_base.specs.Mask.{pattern}
 use Rattle.plai_base.specs.Sets.{has}

@@ -1,4 +1,5 @@
--- Groundness as an abstract domain: sets of assignments as patterns (Cortesi, File and Winsborough 1991; Marriott and Sondergaard 1993).
+-- Groundness as an abstract domain: sets of assignments as patterns
+-- (Cortesi, File and Winsborough 1991; Marriott and Sondergaard 1993).
 use Rattle.std.specs.Prelude.{◌≡◌, ℕ, ◌+◌, List, [], length, Option, Some, None}
 use Rattle.plai_terms.specs.declared.term.Term.{Term}
 use Rattle.plai_terms.specs.declared.abs.Abs.{Abs}

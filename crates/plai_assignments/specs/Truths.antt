@@ -1,4 +1,4 @@
--- The truths of terms under an assignment, and the operations without slots of their own for a head or a literal.
+-- The truths of terms under an assignment, and what enters a clause by them (Marriott and Sondergaard 1993).
 use Rattle.std.specs.Prelude.{ℕ, suc, ◌/◌, ◌%◌, ◌^◌, Bool, true, ◌&&◌, nat_eq, List, [], ◌∷◌, map}
 use Rattle.plai_base.specs.Mask.{has_slot, pattern}
 use Rattle.plai_base.specs.Sets.{has}

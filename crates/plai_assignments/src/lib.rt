@@ -25,16 +25,24 @@ pub fn groundness_is_lawful()
 pub fn groundness_is_sound()
     ensures tells_truly { TellsTruly groundness }
 
-    ensures enter { (call : Abs) (head goal ts : List Term) (r : List (ℕ × Term)) → length head ≡ length goal → all_below (length ts) head ≡ true
+    ensures enter { (call : Abs) (head goal ts : List Term) (r : List (ℕ × Term))
+        → length head ≡ length goal → all_below (length ts) head ≡ true
         → map (instance_of ts) head ≡ map (apply_of r) goal → groundness.describes call goal
-        → (s : StateView) × ((groundness.enter call head (length ts)).value ≡ Some s) × groundness.describes_instance s (map (apply_of r) goal) ts }
-    ensures call { (s : StateView) (hs ts args : List Term) → groundness.describes_instance s hs ts → all_below (length ts) args ≡ true
+        → (s : StateView) × ((groundness.enter call head (length ts)).value ≡ Some s)
+        × groundness.describes_instance s (map (apply_of r) goal) ts }
+    ensures call { (s : StateView) (hs ts args : List Term)
+        → groundness.describes_instance s hs ts → all_below (length ts) args ≡ true
         → groundness.describes (groundness.call s args).value (map (instance_of ts) args) }
-    ensures back { (s : StateView) (hs ts args : List Term) (r : List (ℕ × Term)) (answer : Abs) → groundness.describes_instance s hs ts → all_below (length ts) args ≡ true
+    ensures back { (s : StateView) (hs ts args : List Term) (r : List (ℕ × Term)) (answer : Abs)
+        → groundness.describes_instance s hs ts → all_below (length ts) args ≡ true
         → groundness.describes answer (map (apply_of r) (map (instance_of ts) args))
-        → (next : StateView) × ((groundness.back s args answer).value ≡ Some next) × groundness.describes_instance next (map (apply_of r) hs) (map (apply_of r) ts) }
-    ensures refine { (s : StateView) (hs ts args : List Term) (r : List (ℕ × Term)) (action : Action) → groundness.describes_instance s hs ts → all_below (length ts) args ≡ true
+        → (next : StateView) × ((groundness.back s args answer).value ≡ Some next)
+        × groundness.describes_instance next (map (apply_of r) hs) (map (apply_of r) ts) }
+    ensures refine { (s : StateView) (hs ts args : List Term) (r : List (ℕ × Term)) (action : Action)
+        → groundness.describes_instance s hs ts → all_below (length ts) args ≡ true
         → acts_within (length args) action → allows_at (map (instance_of ts) args) r action
-        → (next : StateView) × ((groundness.refine s args action).value ≡ Some next) × groundness.describes_instance next (map (apply_of r) hs) (map (apply_of r) ts) }
-    ensures exit { (s : StateView) (hs ts head : List Term) → groundness.describes_instance s hs ts → groundness.describes (groundness.exit s head) hs }
+        → (next : StateView) × ((groundness.refine s args action).value ≡ Some next)
+        × groundness.describes_instance next (map (apply_of r) hs) (map (apply_of r) ts) }
+    ensures exit { (s : StateView) (hs ts head : List Term)
+        → groundness.describes_instance s hs ts → groundness.describes (groundness.exit s head) hs }
 {}

@@ -11,6 +11,8 @@ mod program;
 mod read;
 mod shape;
 mod step;
+#[cfg(test)]
+mod tests;
 mod token;
 mod tokens;
 

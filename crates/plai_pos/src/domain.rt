@@ -12,10 +12,11 @@ use plai_terms::{Abs, Listed, Prop, Term};
 use std::alloc::{AllocError, Global};
 
 /// The domain of groundness (Marriott and Sondergaard 1993). Each call gives what the plain domain gives.
-#[derive(Drop)]
+#[derive(Debug, Default, Drop)]
 pub struct Ground {}
 
 impl Ground {
+    /// The domain, which has no settings.
     pub fn new() -> Ground {
         Ground {}
     }
@@ -44,7 +45,8 @@ impl Ground {
         requires arity { arity_of (value_of call.now) ≡ length head.now }
         requires slots { length head.now + variables ≤ 64 }
         requires below { all_below variables head.now ≡ true }
-        ensures { IfOk result (λ state. option_map state_of state ≡ (groundness.enter (value_of call.now) head.now variables).value) }
+        ensures { IfOk result (λ state. option_map state_of state
+            ≡ (groundness.enter (value_of call.now) head.now variables).value) }
     {
         let masks = enter::enter(alloc, call.arity, variables, head, call.masks.as_slice())?;
         Ok(Some(State {
@@ -58,7 +60,8 @@ impl Ground {
     pub fn call(&self, alloc: Global, state: &State, args: &[Term]) -> Result<Value, AllocError>
         requires small { length args.now ≤ 16 }
         requires below { all_below (state_of state.now).variables args.now ≡ true }
-        ensures { IfOk result (λ value. value_of value ≡ (groundness.call (state_of state.now) args.now).value) }
+        ensures { IfOk result (λ value. value_of value
+            ≡ (groundness.call (state_of state.now) args.now).value) }
     {
         let masks = literal::call(alloc, state.arity, state.masks.as_slice(), args)?;
         Ok(Value {
@@ -78,7 +81,8 @@ impl Ground {
         requires small { length args.now ≤ 16 }
         requires below { all_below (state_of state.now).variables args.now ≡ true }
         requires answer { arity_of (value_of answer.now) ≡ length args.now }
-        ensures { IfOk result (λ next. option_map state_of next ≡ (groundness.back (state_of state.now) args.now (value_of answer.now)).value) }
+        ensures { IfOk result (λ next. option_map state_of next
+            ≡ (groundness.back (state_of state.now) args.now (value_of answer.now)).value) }
     {
         let masks = literal::back(
             alloc,
@@ -100,7 +104,8 @@ impl Ground {
     ) -> Result<Option<State>, AllocError>
         requires below { all_below (state_of state.now).variables args.now ≡ true }
         requires within { acts_within (length args.now) action.now }
-        ensures { IfOk result (λ next. option_map state_of next ≡ (groundness.refine (state_of state.now) args.now action.now).value) }
+        ensures { IfOk result (λ next. option_map state_of next
+            ≡ (groundness.refine (state_of state.now) args.now action.now).value) }
     {
         refine::refine(alloc, state, args, action)
     }
@@ -119,7 +124,8 @@ impl Ground {
     /// The least value above two values of one arity.
     pub fn join(&self, alloc: Global, a: &Value, b: &Value) -> Result<Value, AllocError>
         requires { arity_of (value_of a.now) ≡ arity_of (value_of b.now) }
-        ensures { IfOk result (λ value. value_of value ≡ groundness.join (value_of a.now) (value_of b.now)) }
+        ensures { IfOk result (λ value. value_of value
+            ≡ groundness.join (value_of a.now) (value_of b.now)) }
     {
         let masks = sets::merged(alloc, a.masks.as_slice(), b.masks.as_slice())?;
         Ok(Value {
@@ -131,7 +137,8 @@ impl Ground {
     /// Whether the first of two values of one arity lies at or below the second.
     pub fn leq(&self, a: &Value, b: &Value) -> bool
         requires { arity_of (value_of a.now) ≡ arity_of (value_of b.now) }
-        ensures { IsTrue result ↔ groundness.Leq (arity_of (value_of a.now)) (value_of a.now) (value_of b.now) }
+        ensures { IsTrue result
+            ↔ groundness.Leq (arity_of (value_of a.now)) (value_of a.now) (value_of b.now) }
     {
         sets::is_within(a.masks.as_slice(), b.masks.as_slice())
     }

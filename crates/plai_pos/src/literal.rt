@@ -51,7 +51,8 @@ pub(crate) fn back(
     requires arity { arity ≤ 16 }
     requires small { length args.now ≤ 16 }
     requires answer { AreInOrder answer.now }
-    ensures { IfOk result (λ masks. masks.items ≡ filter (λ x. has answer.now (pattern_of args.now (x / 2 ^ arity))) state.now) }
+    ensures { IfOk result (λ masks. masks.items
+        ≡ filter (λ x. has answer.now (pattern_of args.now (x / 2 ^ arity))) state.now) }
 {
     let mut masks = Vec::new(alloc);
     for mask in state {
@@ -71,8 +72,9 @@ pub(crate) fn agreeing(
     right: &Term,
 ) -> Result<Vec<Mask>, AllocError>
     requires { arity ≤ 16 }
-    ensures { IfOk result (λ masks. masks.items ≡
-        filter (λ x. agree (holds (has_slot (x / 2 ^ arity)) left.now) (holds (has_slot (x / 2 ^ arity)) right.now)) state.now) }
+    ensures { IfOk result (λ masks. masks.items ≡ filter
+        (λ x. agree (holds (has_slot (x / 2 ^ arity)) left.now) (holds (has_slot (x / 2 ^ arity)) right.now))
+        state.now) }
 {
     let mut masks = Vec::new(alloc);
     for mask in state {
@@ -91,7 +93,8 @@ pub(crate) fn satisfying(
     term: &Term,
 ) -> Result<Vec<Mask>, AllocError>
     requires { arity ≤ 16 }
-    ensures { IfOk result (λ masks. masks.items ≡ filter (λ x. holds (has_slot (x / 2 ^ arity)) term.now) state.now) }
+    ensures { IfOk result (λ masks. masks.items
+        ≡ filter (λ x. holds (has_slot (x / 2 ^ arity)) term.now) state.now) }
 {
     let mut masks = Vec::new(alloc);
     for mask in state {

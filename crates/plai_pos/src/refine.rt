@@ -33,7 +33,8 @@ fn agreed(
     requires right { (1 ≤ right) × (right ≤ length args.now) }
     ensures { IfOk result (λ next. let start = state.now.arity + state.now.variables in
         state_of next ≡ state_with state.now.arity state.now.variables
-        (acted state.now.arity state.now.variables args.now (λ y. agree (has_slot y (start + (left - 1))) (has_slot y (start + (right - 1)))) state.now.masks)) }
+        (acted state.now.arity state.now.variables args.now
+        (λ y. agree (has_slot y (start + (left - 1))) (has_slot y (start + (right - 1)))) state.now.masks)) }
 {
     let first = &args[left as usize - 1];
     let second = &args[right as usize - 1];
@@ -52,7 +53,8 @@ fn satisfied(
     requires argument { (1 ≤ argument) × (argument ≤ length args.now) }
     ensures { IfOk result (λ next. let start = state.now.arity + state.now.variables in
         state_of next ≡ state_with state.now.arity state.now.variables
-        (acted state.now.arity state.now.variables args.now (λ y. has_slot y (start + (argument - 1))) state.now.masks)) }
+        (acted state.now.arity state.now.variables args.now
+        (λ y. has_slot y (start + (argument - 1))) state.now.masks)) }
 {
     let term = &args[argument as usize - 1];
     let masks = literal::satisfying(alloc, state.arity, state.masks.as_slice(), term)?;
@@ -67,8 +69,8 @@ fn kept_variable(
     argument: u32,
 ) -> Result<Option<State>, AllocError>
     requires { (1 ≤ argument) × (argument ≤ length args.now) }
-    ensures { IfOk result (λ next. option_map state_of next ≡
-        state_from state.now.arity state.now.variables (if_variable state.now.arity state.now.masks (variable_at args.now (argument - 1)))) }
+    ensures { IfOk result (λ next. option_map state_of next ≡ state_from state.now.arity state.now.variables
+        (if_variable state.now.arity state.now.masks (variable_at args.now (argument - 1)))) }
 {
     let term = &args[argument as usize - 1];
     if literal::may_be_variable(state.arity, state.masks.as_slice(), term) {
@@ -87,7 +89,8 @@ pub(crate) fn refine(
 ) -> Result<Option<State>, AllocError>
     requires below { all_below (state_of state.now).variables args.now ≡ true }
     requires within { acts_within (length args.now) action.now }
-    ensures { IfOk result (λ next. option_map state_of next ≡ (groundness.refine (state_of state.now) args.now action.now).value) }
+    ensures { IfOk result (λ next. option_map state_of next
+        ≡ (groundness.refine (state_of state.now) args.now action.now).value) }
 {
     match action {
         Action::Fail => Ok(None),

@@ -1,0 +1,15 @@
+pub mod Spine
+pub mod Climbs
+pub mod Weakest
+pub mod Trees
+pub mod Runs
+pub mod Readings
+pub mod Keeping
+pub mod Numbers
+pub mod Decisions
+pub mod Maps
+pub mod FiniteMaps
+pub mod Gathering
+pub mod Lists
+pub mod Answering
+pub mod Passing

@@ -1,0 +1,10 @@
+pub mod Kinds
+pub mod Level
+pub mod Readable
+pub mod Operators
+pub mod Variables
+pub mod Roles
+pub mod Reading
+pub mod Climb
+pub mod Limits
+pub mod States

@@ -1,0 +1,5 @@
+pub mod Digits
+pub mod Ends
+pub mod Joins
+pub mod Steps
+pub mod Values

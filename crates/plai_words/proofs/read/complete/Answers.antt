@@ -1,0 +1,18 @@
+use Rattle.std.proofs.Common.{refl}
+use Rattle.plai_words.proofs.Ends.{chosen_is, nothing_chosen, agree, differ}
+use Rattle.plai_words.proofs.read.complete.Goals as goal
+
+pub returns-then-is_some-is_empty : goal.returns-then-is_some-is_empty
+returns-then-is_some-is_empty c = (
+  refl,
+  nothing_chosen c.args.seen.domain c.args.seen.depth c.args.seen.rows c.args.seen.make c.args.seen.files.items
+      (differ c.args.seen.make c.args.seen.files.items c.is_some.result c.is_empty.result c.is_some.ensures
+      (rw c.as_slice.ensures.value at c.is_empty.ensures) c.if-is_some-is_empty.true),
+)
+
+pub returns : goal.returns
+returns c =
+    rw (c.unwrap_or.ensures, c.unwrap_or-2.ensures, c.from.ensures, c.unwrap_or-3.ensures, c.new.ensures)
+    (chosen_is c.args.seen.domain c.args.seen.depth c.args.seen.rows c.args.seen.make c.args.seen.files.items
+    (agree c.args.seen.make c.args.seen.files.items c.is_some.result c.is_empty.result c.is_some.ensures
+    (rw c.as_slice.ensures.value at c.is_empty.ensures) c.if-is_some-is_empty.false))
