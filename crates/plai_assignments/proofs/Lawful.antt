@@ -36,4 +36,5 @@ groundness_lawful =
         back = λ n v args s t a b h le k over. absurd (nothing_over over);
         refine = λ n v args action s t h w le over. absurd (nothing_over over);
       };
+      shaped = record { arity = λ n v s t h. h.first_arity; variables = λ n v s t h. h.first_variables };
     }

@@ -1,6 +1,8 @@
 //! The builtin predicates: what they do to a state.
 #![tactic(auto)]
 
+mod actions;
 mod laws;
 
+pub use actions::{Actions, actions_of};
 pub use laws::table_laws;

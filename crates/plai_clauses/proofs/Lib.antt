@@ -1,1 +1,4 @@
 pub mod OneModule
+pub mod Bodies
+pub mod Changes
+pub mod Kept

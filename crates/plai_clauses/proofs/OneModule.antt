@@ -5,8 +5,9 @@ use Rattle.plai_theory.specs.Words.{IsIn}
 use Rattle.plai_theory.proofs.Options.{by_test}
 use Rattle.plai_terms.specs.declared.pred_key.PredKey.{PredKey}
 use Rattle.plai_clauses.specs.declared.clause.Clause.{Clause}
+use Rattle.plai_clauses.specs.declared.definition.Definition.{Definition}
 use Rattle.plai_clauses.specs.declared.entry.Entry.{Entry}
-use Rattle.plai_clauses.specs.Program.{Definition, same_pred, clauses_in, clauses_of, entries_of, with_clause, pred_of, one_module}
+use Rattle.plai_clauses.specs.Program.{same_pred, clauses_in, clauses_of, entries_of, with_clause, pred_of, one_module}
 use Rattle.plai_clauses.specs.WellFormed.{IsWellFormedClause, IsWellFormedEntry, IsWellFormed}
 
 both : (p q : Bool) → (p && q) ≡ true → (p ≡ true) × (q ≡ true)
@@ -68,7 +69,7 @@ clauses_of-one_module m cs es p = clauses_in-fold m cs [] p
 
 -- Theorem: the entries are those of the module.
 pub entries_of-one_module : (m : List ℕ) (cs : List Clause) (es : List Entry) → entries_of (one_module m cs es) ≡ es
-entries_of-one_module m cs es = append-nil es
+entries_of-one_module m cs es = refl
 
 -- what passes a filter is in the list and passes the test
 pub of_filter : {A : Type 0} (test : A → Bool) (xs : List A) (x : A) → IsIn x (filter test xs) → IsIn x xs × (test x ≡ true)
@@ -90,6 +91,7 @@ one_module_well_formed m cs es good known =
       arities = λ p c i. ap (λ (k : PredKey). k.arity) (same_pred-true (pred_of m c) p (member p c i).1);
       clauses = λ p c i. good c (member p c i).0;
       entries = λ e i. known e (subst (λ (xs : List Entry). IsIn e xs) (entries_of-one_module m cs es) i);
+      checks = λ c i. absurd i;
     }
   where
     member : (p : PredKey) (c : Clause) → IsIn c (clauses_of (one_module m cs es) p) → IsIn c cs × (same_pred (pred_of m c) p ≡ true)

@@ -1,4 +1,7 @@
 pub mod Builtins
+pub mod Bodies
+pub mod ClauseOf
 pub mod Program
+pub mod Readable
 pub mod WellFormed
 pub mod Codes

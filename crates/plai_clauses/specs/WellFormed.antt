@@ -9,6 +9,7 @@ use Rattle.plai_clauses.specs.declared.clause.Literal.{Literal}
 use Rattle.plai_clauses.specs.declared.clause.Target.{Target}
 use Rattle.plai_clauses.specs.declared.clause.Target.TheVariants.{Pred, Builtin}
 use Rattle.plai_clauses.specs.declared.entry.Entry.{Entry}
+use Rattle.plai_clauses.specs.declared.check.Check.{Check}
 use Rattle.plai_clauses.specs.Builtins.{is_builtin_key}
 use Rattle.plai_clauses.specs.Program.{ProgramView, clauses_of, entries_of}
 
@@ -30,9 +31,15 @@ pub record IsWellFormedEntry (entry : Entry) : Type 0 where
   pub few : entry.pred.arity ≤ most_arguments
   pub pre : All (speaks_within entry.pred.arity) entry.pre
 
--- Each clause is of its predicate, and clauses and entries are well formed.
+pub record IsWellFormedCheck (check : Check) : Type 0 where
+  pub few : check.pred.arity ≤ most_arguments
+  pub pre : All (speaks_within check.pred.arity) check.pre
+  pub post : All (speaks_within check.pred.arity) check.post
+
+-- Each clause is of its predicate, and clauses, entries and checks are well formed.
 pub record IsWellFormed (program : ProgramView) : Type 0 where
   pub names : (pred : PredKey) (clause : Clause) → IsIn clause (clauses_of program pred) → clause.name ≡ pred.name
   pub arities : (pred : PredKey) (clause : Clause) → IsIn clause (clauses_of program pred) → length clause.head ≡ pred.arity
   pub clauses : (pred : PredKey) (clause : Clause) → IsIn clause (clauses_of program pred) → IsWellFormedClause clause
   pub entries : (entry : Entry) → IsIn entry (entries_of program) → IsWellFormedEntry entry
+  pub checks : (check : Check) → IsIn check program.checks → IsWellFormedCheck check

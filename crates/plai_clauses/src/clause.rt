@@ -29,7 +29,7 @@ pub struct Clause {
     pub body: Listed<Literal>,
 }
 
-fn copy_terms(alloc: Global, terms: &[Term]) -> Result<Vec<Term>, AllocError>
+pub(crate) fn copy_terms(alloc: Global, terms: &[Term]) -> Result<Vec<Term>, AllocError>
     ensures { IfOk result (λ copies. copies.items ≡ terms.now) }
 {
     let mut copies = Vec::new(alloc);

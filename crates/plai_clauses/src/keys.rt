@@ -7,7 +7,7 @@ ghost use Rattle.plai_clauses.specs.Builtins.{is_key, builtins, refused, is_call
 use plai_terms::Name;
 
 /// The greatest number of arguments of a predicate.
-const MOST_ARGUMENTS: u32 = 16;
+pub(crate) const MOST_ARGUMENTS: u32 = 16;
 
 const BUILTINS: [(&str, u32); 31] = [
     ("true", 0),

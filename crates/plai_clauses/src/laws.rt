@@ -3,8 +3,10 @@ ghost use Rattle.plai_theory.specs.Words.{IsIn};
 ghost use Rattle.plai_terms.specs.declared.pred_key.PredKey.{PredKey};
 ghost use Rattle.plai_clauses.specs.declared.clause.Clause.{Clause};
 ghost use Rattle.plai_clauses.specs.declared.entry.Entry.{Entry};
-ghost use Rattle.plai_clauses.specs.Program.{same_pred, clauses_of, entries_of, pred_of, one_module};
-ghost use Rattle.plai_clauses.specs.WellFormed.{IsWellFormedClause, IsWellFormedEntry, IsWellFormed};
+ghost use Rattle.plai_clauses.specs.declared.check.Check.{Check};
+ghost use Rattle.plai_clauses.specs.declared.modules.Module.{Module};
+ghost use Rattle.plai_clauses.specs.Program.{ProgramView, same_pred, clauses_of, entries_of, pred_of, one_module, with_module, with_clause_of, without_clause, without_clauses, with_entry, without_entry, with_check, without_check};
+ghost use Rattle.plai_clauses.specs.WellFormed.{IsWellFormedClause, IsWellFormedEntry, IsWellFormedCheck, IsWellFormed};
 
 /// What a program of one module has: of each predicate the clauses that belong to it, in order, and the module's
 /// entries.
@@ -16,4 +18,16 @@ pub fn one_module_laws()
     ensures well_formed { (name : List ℕ) (clauses : List Clause) (entries : List Entry)
         → ((clause : Clause) → IsIn clause clauses → IsWellFormedClause clause) → ((entry : Entry) → IsIn entry entries → IsWellFormedEntry entry)
         → IsWellFormed (one_module name clauses entries) }
+{}
+
+/// A program stays well formed when what is added to it is well formed, and when something is taken away.
+pub fn change_laws()
+    ensures added_module { (program : ProgramView) (added : Module) → IsWellFormed program → IsWellFormed (with_module program added) }
+    ensures added_clause { (program : ProgramView) (name : List ℕ) (clause : Clause) → IsWellFormed program → IsWellFormedClause clause → IsWellFormed (with_clause_of program name clause) }
+    ensures removed_clause { (program : ProgramView) (pred : PredKey) (number : ℕ) → IsWellFormed program → IsWellFormed (without_clause program pred number) }
+    ensures cleared { (program : ProgramView) (pred : PredKey) → IsWellFormed program → IsWellFormed (without_clauses program pred) }
+    ensures added_entry { (program : ProgramView) (entry : Entry) → IsWellFormed program → IsWellFormedEntry entry → IsWellFormed (with_entry program entry) }
+    ensures removed_entry { (program : ProgramView) (name : List ℕ) (number : ℕ) → IsWellFormed program → IsWellFormed (without_entry program name number) }
+    ensures added_check { (program : ProgramView) (check : Check) → IsWellFormed program → IsWellFormedCheck check → IsWellFormed (with_check program check) }
+    ensures removed_check { (program : ProgramView) (name : List ℕ) (number : ℕ) → IsWellFormed program → IsWellFormed (without_check program name number) }
 {}

@@ -1,12 +1,27 @@
 //! Clauses, literals and entries, and the keys that no clause may have.
 #![tactic(auto)]
 
+mod cause;
+mod check;
 mod clause;
+mod definition;
 mod entry;
+mod from_term;
+mod homes;
+mod imports;
 mod keys;
 mod laws;
+mod modules;
+mod program;
+#[cfg(test)]
+mod tests;
 
+pub use cause::{ClauseCause, ClauseFail};
+pub use check::{Check, CheckKind};
 pub use clause::{Clause, Literal, Target};
 pub use entry::Entry;
+pub use imports::Imports;
 pub use keys::{is_builtin, is_definable, is_refused_key};
-pub use laws::one_module_laws;
+pub use laws::{change_laws, one_module_laws};
+pub use modules::Module;
+pub use program::Program;

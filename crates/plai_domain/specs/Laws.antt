@@ -51,9 +51,15 @@ pub record FormsMore (p : PlainDomain) : Type 0 where
       → acts_within (length args) action → p.Below n v s t
       → SomeTooLarge (p.refine s args action).sizes → SomeTooLarge (p.refine t args action).sizes
 
+-- A state has as many arguments and variables as its clause.
+pub record IsShaped (p : PlainDomain) : Type 0 where
+  pub arity : (n v : ℕ) (s t : StateView) → p.Below n v s t → s.arity ≡ n
+  pub variables : (n v : ℕ) (s t : StateView) → p.Below n v s t → s.variables ≡ v
+
 -- what every domain owes
 pub record IsLawful (p : PlainDomain) : Type 0 where
   pub ordered : IsOrdered p
   pub monotone : IsMonotone p
   pub ranked : IsRanked p
   pub forms_more : FormsMore p
+  pub shaped : IsShaped p

@@ -6,3 +6,4 @@ pub mod Outcomes
 pub mod Laws
 pub mod Allowed
 pub mod Soundness
+pub mod Names

@@ -3,8 +3,14 @@
 
 mod action;
 mod dom_fail;
+mod domain;
+mod key;
 mod work;
+mod work_log;
 
 pub use action::Action;
 pub use dom_fail::DomFail;
+pub use domain::Domain;
+pub use key::Key;
 pub use work::{Tally, Work, WorkEntry};
+pub use work_log::WorkLog;

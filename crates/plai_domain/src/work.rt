@@ -1,4 +1,4 @@
-ghost use Rattle.std.specs.Prelude.{◌≡◌, List, None, OnOk, OnErr};
+ghost use Rattle.std.specs.Prelude.{◌≡◌, List, None, IfOk, OnOk, OnErr};
 ghost use Rattle.std.specs.declared.option.Option.{Option};
 ghost use Rattle.plai_domain.specs.declared.work.WorkEntry.{WorkEntry};
 ghost use Rattle.plai_domain.specs.Noted.{noted};
@@ -19,6 +19,25 @@ pub enum WorkEntry {
     Evaluated(RowName, u64),
     /// The answer of a row grows to this pattern.
     Grew(RowName, Abs),
+}
+
+impl WorkEntry {
+    /// An equal entry.
+    pub fn copy(&self, alloc: Global) -> Result<WorkEntry, AllocError>
+        ensures { IfOk result (λ entry. entry ≡ self.now) }
+    {
+        match self {
+            WorkEntry::Mark(number) => Ok(WorkEntry::Mark(*number)),
+            WorkEntry::Made(name) => Ok(WorkEntry::Made(name.copy(alloc)?)),
+            WorkEntry::Woke(name) => Ok(WorkEntry::Woke(name.copy(alloc)?)),
+            WorkEntry::Evaluated(name, clause) => {
+                Ok(WorkEntry::Evaluated(name.copy(alloc)?, *clause))
+            }
+            WorkEntry::Grew(name, answer) => {
+                Ok(WorkEntry::Grew(name.copy(alloc)?, answer.copy(alloc)?))
+            }
+        }
+    }
 }
 
 /// Who is told of the work.

@@ -85,6 +85,7 @@ silent_lawful =
         back = λ n v args s t a b h le k over. absurd (no_sets over);
         refine = λ n v args action s t h w le over. absurd (no_sets over);
       };
+      shaped = record { arity = λ n v s t h. ap (λ (x : StateView). x.arity) h.0; variables = λ n v s t h. ap (λ (x : StateView). x.variables) h.0 };
     }
 
 -- m:p/1 and m:q/1

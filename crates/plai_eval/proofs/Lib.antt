@@ -4,3 +4,5 @@ pub mod Facts
 pub mod One
 pub mod Example
 pub mod Over
+pub mod Walk
+pub mod Closed

@@ -5,3 +5,4 @@ pub mod Merging
 pub mod Placed
 pub mod Refined
 pub mod Sorted
+pub mod Shapes

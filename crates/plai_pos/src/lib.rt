@@ -4,6 +4,7 @@
 
 mod domain;
 mod enter;
+mod implementation;
 mod literal;
 mod properties;
 mod refine;

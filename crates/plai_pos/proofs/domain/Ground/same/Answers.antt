@@ -1,4 +1,4 @@
-use Rattle.plai_pos.proofs.Equal.{same_value}
+use Rattle.plai_pos.specs.Equality.{same_value}
 use Rattle.plai_pos.proofs.domain.Ground.same.Goals as goal
 
 pub returns : goal.returns

@@ -1,0 +1,16 @@
+use Rattle.std.proofs.Common.{◌≡◌, ◌<◌, ◌≤◌, ◌∙◌, ap, sym, length, arith}
+use Rattle.std.proofs.lemmas.List.{length-map}
+use Rattle.plai_clauses.specs.Program.{ProgramView, place_of, many_of, homes_of_entries}
+use Rattle.plai_clauses.proofs.Changes.{place_within}
+use Rattle.plai_clauses.proofs.program.Program.remove_entry.Goals as goal
+
+pub remove-requires : goal.remove-requires
+remove-requires c =
+    let there : c.args.number ≤ many_of c.args.module.now (homes_of_entries c.self.inside.entries.items) =
+    rw (ap (λ (p : ProgramView). p.entries) c.self.view_is) c.requires.there in
+    let r : place_of c.args.module.now c.args.number (homes_of_entries c.self.inside.entries.items) < length (homes_of_entries c.self.inside.entries.items) =
+    place_within c.args.module.now (homes_of_entries c.self.inside.entries.items) c.args.number c.requires.some there in
+    let p : c.place_of-place.result ≡ place_of c.args.module.now c.args.number (homes_of_entries c.self.inside.entries.items) =
+    c.place_of-place.ensures.place ∙ ap (λ es. place_of c.args.module.now c.args.number (homes_of_entries es)) c.deref.ensures.value in
+    let l : length (homes_of_entries c.self.inside.entries.items) ≡ length c.self.inside.entries.items = length-map c.self.inside.entries.items (λ e. e.module) in
+    omega (arith, c.self.inside.entries.ok.0)

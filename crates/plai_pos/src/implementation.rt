@@ -1,0 +1,122 @@
+use crate::domain::Ground;
+use crate::value::{State, Value};
+use plai_base::Steps;
+use plai_domain::{Action, DomFail, Domain};
+use plai_terms::{Abs, Prop, Term};
+use std::alloc::{AllocError, Global};
+use std::sync::ledger::Ledger;
+
+impl Domain for Ground {
+    ghost use Rattle.std.specs.Prelude.{refl};
+    ghost use Rattle.plai_assignments.specs.Groundness.{groundness};
+    ghost use Rattle.plai_assignments.proofs.Lawful.{groundness_lawful};
+    ghost use Rattle.plai_pos.specs.Values.{value_of as pattern_of, state_of as view_of};
+    ghost use Rattle.plai_pos.specs.Equality.{same_value};
+
+    type Value = Value;
+
+    type State = State;
+
+    ghost plain = { λ _. groundness };
+
+    ghost value_of = { pattern_of };
+
+    ghost state_of = { view_of };
+
+    ghost equal = { λ a b. same_value a b _ refl };
+
+    ghost lawful = { λ _. groundness_lawful };
+
+    fn describe(&self, alloc: Global, arity: u32, pre: &[Prop]) -> Result<Value, AllocError> {
+        Ground::describe(self, alloc, arity, pre)
+    }
+
+    fn enter<L: Ledger>(
+        &self,
+        alloc: Global,
+        call: &Value,
+        head: &[Term],
+        variables: u32,
+        steps: &mut Steps<L>,
+    ) -> Result<Option<State>, DomFail> {
+        steps.tick();
+        Ok(Ground::enter(self, alloc, call, head, variables)?)
+    }
+
+    fn call<L: Ledger>(
+        &self,
+        alloc: Global,
+        state: &State,
+        args: &[Term],
+        steps: &mut Steps<L>,
+    ) -> Result<Value, DomFail> {
+        steps.tick();
+        Ok(Ground::call(self, alloc, state, args)?)
+    }
+
+    fn back<L: Ledger>(
+        &self,
+        alloc: Global,
+        state: &State,
+        args: &[Term],
+        answer: &Value,
+        steps: &mut Steps<L>,
+    ) -> Result<Option<State>, DomFail> {
+        steps.tick();
+        Ok(Ground::back(self, alloc, state, args, answer)?)
+    }
+
+    fn refine<L: Ledger>(
+        &self,
+        alloc: Global,
+        state: &State,
+        args: &[Term],
+        action: &Action,
+        steps: &mut Steps<L>,
+    ) -> Result<Option<State>, DomFail> {
+        steps.tick();
+        Ok(Ground::refine(self, alloc, state, args, action)?)
+    }
+
+    fn exit<L: Ledger>(
+        &self,
+        alloc: Global,
+        state: &State,
+        head: &[Term],
+        steps: &mut Steps<L>,
+    ) -> Result<Value, AllocError> {
+        steps.tick();
+        Ground::exit(self, alloc, state, head)
+    }
+
+    fn join<L: Ledger>(
+        &self,
+        alloc: Global,
+        a: &Value,
+        b: &Value,
+        steps: &mut Steps<L>,
+    ) -> Result<Value, AllocError> {
+        steps.tick();
+        Ground::join(self, alloc, a, b)
+    }
+
+    fn leq(&self, a: &Value, b: &Value) -> bool {
+        Ground::leq(self, a, b)
+    }
+
+    fn same(&self, a: &Value, b: &Value) -> bool {
+        Ground::same(self, a, b)
+    }
+
+    fn entails(&self, a: &Value, prop: &Prop) -> bool {
+        Ground::entails(self, a, prop)
+    }
+
+    fn excludes(&self, a: &Value, prop: &Prop) -> bool {
+        Ground::excludes(self, a, prop)
+    }
+
+    fn to_abs(&self, alloc: Global, a: &Value) -> Result<Abs, AllocError> {
+        Ground::to_abs(self, alloc, a)
+    }
+}
