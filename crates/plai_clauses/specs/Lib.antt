@@ -2,6 +2,5 @@ pub mod Builtins
 pub mod Bodies
 pub mod ClauseOf
 pub mod Program
-pub mod Readable
 pub mod WellFormed
 pub mod Codes
