@@ -1,5 +1,5 @@
-mod Arities
+mod Analysed
 mod Deciding
+mod Endings
 mod Outcomes
 mod Reading
-pub mod RowLemmas

@@ -20,6 +20,6 @@ is_built_command settings = is_ground settings.domain && is_none settings.make
 
 -- the words form a command that is carried out, with these settings
 pub record IsCommand (words : List (List ℕ)) (settings : Settings) : Type 0 where
-  pub words : settings_of words ≡ Some settings
+  pub formed : settings_of words ≡ Some settings
   pub built : is_built_command settings ≡ true
   pub few : length settings.files ≤ most_files

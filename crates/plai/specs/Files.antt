@@ -12,13 +12,13 @@ use Rattle.plai.specs.Commands.{IsCommand}
 abbrev pub texts_of : TextMap → List (List ℕ) → List (List ℕ)
 texts_of files names = map (text_of files) names
 
--- no text is too long
-abbrev pub AreShort : List (List ℕ) → Type 0
-AreShort texts = All (λ text. length text ≤ longest_text) texts
+-- no file is too long
+abbrev pub AreShort : TextMap → List (List ℕ) → Type 0
+AreShort files names = All (λ name. length (text_of files name) ≤ longest_text) names
 
--- some text is too long
-abbrev pub IsSomeLong : List (List ℕ) → Type 0
-IsSomeLong texts = Any (λ text. longest_text < length text) texts
+-- some file is too long
+abbrev pub IsSomeLong : TextMap → List (List ℕ) → Type 0
+IsSomeLong files names = Any (λ name. longest_text < length (text_of files name)) names
 
 -- the name of the file of this number, from 1
 abbrev pub name_at : List (List ℕ) → ℕ → List ℕ
@@ -35,14 +35,14 @@ is_built_program program = has_no_checks program.checks && not (calls_builtins p
 -- the words form a command, whose files aren't too long
 pub record HasFiles (words : List (List ℕ)) (files : TextMap) (settings : Settings) : Type 0 where
   pub command : IsCommand words settings
-  pub short : AreShort (texts_of files settings.files)
+  pub short : AreShort files settings.files
 
 -- and its files are loaded to this program
 pub record HasProgram (words : List (List ℕ)) (files : TextMap) (settings : Settings) (program : ProgramView) : Type 0 where
-  pub files : HasFiles words files settings
-  pub program : loaded (texts_of files settings.files) ≡ Ok program
+  pub given : HasFiles words files settings
+  pub loads : loaded (texts_of files settings.files) ≡ Ok program
 
 -- or they are refused
 pub record HasRefusal (words : List (List ℕ)) (files : TextMap) (settings : Settings) (refusal : Refusal) : Type 0 where
-  pub files : HasFiles words files settings
-  pub refusal : loaded (texts_of files settings.files) ≡ Err refusal
+  pub given : HasFiles words files settings
+  pub loads : loaded (texts_of files settings.files) ≡ Err refusal

@@ -2,20 +2,20 @@
 -- fails and there is memory. The words come first, then the number of files, the files, their loading, the script, and
 -- the analysis. Its output is the least table of the loaded program under groundness (Muthukumar and Hermenegildo 1992),
 -- or the line of the limit that it met.
-use Rattle.std.specs.Prelude.{ℕ, ◌≡◌, ◌≢◌, ◌⊎◌, ◌<◌, ◌≤◌, List, [], true, false, None, Some, length}
+use Rattle.std.specs.Prelude.{ℕ, ◌+◌, ◌≡◌, ◌≢◌, ◌⊎◌, ◌<◌, ◌≤◌, List, [], true, false, None, Some, length}
 use Rattle.plai_base.specs.Texts.{TextMap}
 use Rattle.plai_terms.specs.declared.plain_row.PlainRow.{PlainRow}
 use Rattle.plai_assignments.specs.Groundness.{groundness}
 use Rattle.plai_clauses.specs.Program.{ProgramView}
 use Rattle.plai_eval.specs.LeastTable.{IsLeastTable}
+use Rattle.plai_eval.specs.Stops.{HaveBelow}
 use Rattle.plai_modules.specs.Loading.{Refusal}
 use Rattle.plai_render.specs.Block.{block_text}
 use Rattle.plai_render.specs.Stopped.{stopped_text}
-use Rattle.plai_rounds.specs.Causes.{NeedsMoreRows}
 use Rattle.plai_words.specs.Command.{settings_of}
 use Rattle.plai_words.specs.declared.types.Settings.{Settings}
 use Rattle.plai.specs.Commands.{most_files, is_built_command, IsCommand}
-use Rattle.plai.specs.Files.{texts_of, IsSomeLong, name_at, is_built_program, HasProgram, HasRefusal}
+use Rattle.plai.specs.Files.{IsSomeLong, name_at, is_built_program, HasProgram, HasRefusal}
 use Rattle.plai.specs.Refusal.{refusal_text}
 
 -- a status and an output
@@ -50,7 +50,7 @@ pub data IsByWords (words : List (List ℕ)) : Outcome → Type 0 where
 -- the outcomes that the words and the files decide, whatever the script is
 pub data IsEarly (words : List (List ℕ)) (files : TextMap) : Outcome → Type 0 where
   by_words : (outcome : Outcome) → IsByWords words outcome → IsEarly words files outcome
-  too_long : (settings : Settings) → IsCommand words settings → IsSomeLong (texts_of files settings.files) → IsEarly words files (silent 4)
+  too_long : (settings : Settings) → IsCommand words settings → IsSomeLong files settings.files → IsEarly words files (silent 4)
   refused : (settings : Settings) (refusal : Refusal) → HasRefusal words files settings refusal → IsEarly words files (refused_by settings.files refusal)
   unbuilt : (settings : Settings) (program : ProgramView) → HasProgram words files settings program → is_built_program program ≡ false
       → IsEarly words files (silent 8)
@@ -61,10 +61,14 @@ pub record IsReady (words : List (List ℕ)) (files : TextMap) (script : List �
   pub built : is_built_program program ≡ true
   pub empty : script ≡ []
 
+-- more names than the limit lie at or below those of the least table, each of the same predicate
+abbrev pub NeedsMoreRows : ProgramView → ℕ → Type 0
+NeedsMoreRows program limit = (rows : List PlainRow) → IsLeastTable groundness program rows → HaveBelow groundness rows (limit + 1)
+
 -- the outcomes of an analysis with a limit of rows: the least table, where it keeps the limit, or a stop by its cause
 pub data IsAnalysed (program : ProgramView) (limit : ℕ) : Outcome → Type 0 where
   table : (rows : List PlainRow) → IsLeastTable groundness program rows → length rows ≤ limit → IsAnalysed program limit (done rows)
-  stopped : NeedsMoreRows groundness program limit → IsAnalysed program limit (stopped_at limit)
+  stopped : NeedsMoreRows program limit → IsAnalysed program limit (stopped_at limit)
 
 -- the outcomes of a call
 pub data IsOutcome (words : List (List ℕ)) (files : TextMap) (script : List ℕ) : Outcome → Type 0 where

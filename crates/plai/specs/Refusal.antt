@@ -17,10 +17,14 @@ lexical_text OpenComment = codes "open_comment "
 lexical_text BadEscape = codes "bad_escape "
 lexical_text NumberTooLarge = codes "number_too_large "
 
+-- a name and a number of arguments
+unfoldable pub key_text : List ℕ → ℕ → List ℕ
+key_text name arity = atom_text name ++ codes "/" ++ decimal arity
+
 -- why a term says no clause
 abbrev pub clause_cause_text : ClauseCause → List ℕ
 clause_cause_text NotAClause = codes "not_a_clause"
-clause_cause_text (Unsupported name arity) = codes "unsupported " ++ atom_text name ++ codes "/" ++ decimal arity
+clause_cause_text (Unsupported name arity) = codes "unsupported " ++ key_text name arity
 clause_cause_text (ArityTooLarge arity) = codes "pred_arity " ++ decimal arity
 clause_cause_text (TooManySlots count) = codes "too_many_slots " ++ decimal count
 

@@ -1,66 +1,82 @@
-// The file and the script.
-ghost use Rattle.std.specs.Prelude.{◌≡◌, ◌≢◌, ◌<◌, ◌≤◌, ◌⊎◌, [], length, IfSome, IfOk, IfErr, OnOk, IsErrOf};
+// The files and the script.
+ghost use Rattle.std.specs.Prelude.{◌≡◌, ◌≢◌, ◌<◌, ◌≤◌, ◌⊎◌, [], All, length, map, IfSome, IfOk, IfErr, OnOk, IsErrOf};
 ghost use Rattle.std.specs.Io.KnownBytes.{IsAtEnd};
 ghost use Rattle.plai_base.specs.Causes.{Rose};
 ghost use Rattle.plai_base.specs.Texts.{text_of, longest_text};
-ghost use Rattle.plai_facts.specs.File.{IsFile};
-ghost use Rattle.plai_facts.specs.WellFormed.{AreWellFormed};
-ghost use Rattle.plai.specs.Form.{IsNoFile};
-ghost use Rattle.plai.specs.Stops.{IsReadEnd, IsFileStop, IsInputStop};
+ghost use Rattle.plai.specs.Files.{texts_of, AreShort, IsSomeLong};
+ghost use Rattle.plai.specs.Stops.{IsReadEnd};
 
 use crate::stop::Stop;
 use plai_base::{Library, ReadFail, Source, read_whole};
-use plai_facts::{Facts, FactsFail, read_facts};
-use std::alloc::Global;
+use plai_modules::NamedText;
+use plai_terms::{Listed, Name};
+use plai_words::Text;
+use std::alloc::{AllocError, Global};
 
 /// The most bytes of the script: 16 mebibytes.
 const MAX_SCRIPT: usize = 16_777_216;
 
-/// Reads the text of a file.
-fn read_text<B: Library>(alloc: Global, name: &str, library: &mut B) -> Result<Vec<u8>, Stop>
-    ensures text { IfOk result (λ text. IfSome (B.files library.old) (λ files. text.items ≡ text_of files name.now)) }
-    ensures short { IfOk result (λ text. length text.items ≤ longest_text) }
+/// A text with its name.
+fn named(alloc: Global, name: &Text, text: Vec<u8>) -> Result<NamedText, AllocError>
+    ensures name { IfOk result (λ file. file.name ≡ name.now) }
+    ensures text { IfOk result (λ file. file.text ≡ text.items) }
+{
+    let bytes = name.as_str().as_bytes();
+    Ok(NamedText {
+        name: Name::new(Vec::from_slice(alloc, bytes)?),
+        text: Listed::new(text),
+    })
+}
+
+/// Reads a file.
+fn read_file<B: Library>(alloc: Global, name: &Text, library: &mut B) -> Result<NamedText, Stop>
+    ensures name { IfOk result (λ file. file.name ≡ name.now) }
+    ensures text { IfOk result (λ file. IfSome (B.files library.old) (λ files. file.text ≡ text_of files name.now)) }
+    ensures short { IfOk result (λ file. length file.text ≤ longest_text) }
     ensures stop { IfErr result (λ stop. IsReadEnd stop ⊎
-        ((stop ≡ Stop.TooLong) × IfSome (B.files library.old) (λ files. longest_text < length (text_of files name.now)))) }
+        ((stop ≡ Stop.TooLarge) × IfSome (B.files library.old) (λ files. longest_text < length (text_of files name.now)))) }
+    ensures same { B.files library.new ≡ B.files library.old }
     ensures later { B.faults library.old ≤ B.faults library.new }
     ensures failed { IsErrOf result Stop.ReadFault → Rose (B.faults library.old) (B.faults library.new) }
 {
     let mut text = Vec::new(alloc);
-    match library.read(alloc, name, &mut text) {
-        Ok(()) => Ok(text),
-        Err(ReadFail::TooLong) => Err(Stop::TooLong),
+    match library.read(alloc, name.as_str(), &mut text) {
+        Ok(()) => match named(alloc, name, text) {
+            Ok(file) => Ok(file),
+            Err(_) => Err(Stop::Memory),
+        },
+        Err(ReadFail::TooLong) => Err(Stop::TooLarge),
         Err(ReadFail::Failed) => Err(Stop::ReadFault),
         Err(ReadFail::Memory) => Err(Stop::Memory),
     }
 }
 
-/// The facts of a text.
-fn facts_of(alloc: Global, text: &[u8]) -> Result<Facts, Stop>
-    ensures taken { IfOk result (λ facts. IsFile text.now facts) }
-    ensures well_formed { IfOk result AreWellFormed }
-    ensures stop { IfErr result (λ stop. (stop ≡ Stop.Memory) ⊎ ((stop ≡ Stop.NotBuilt) × IsNoFile text.now)) }
-{
-    match read_facts(alloc, text) {
-        Ok(facts) => Ok(facts),
-        Err(FactsFail::Memory) => Err(Stop::Memory),
-        Err(FactsFail::NotTaken) => Err(Stop::NotBuilt),
-    }
-}
-
-/// Reads a file, and takes its facts.
-pub fn read_file<B: Library>(alloc: Global, name: &str, library: &mut B) -> Result<Facts, Stop>
-    ensures short { OnOk result (IfSome (B.files library.old) (λ files. length (text_of files name.now) ≤ longest_text)) }
-    ensures taken { IfOk result (λ facts. IfSome (B.files library.old) (λ files. IsFile (text_of files name.now) facts)) }
-    ensures well_formed { IfOk result AreWellFormed }
-    ensures stop { IfErr result (λ stop. IsReadEnd stop ⊎ IfSome (B.files library.old) (λ files. IsFileStop (text_of files name.now) stop)) }
-    ensures kind { IfErr result IsInputStop }
+/// Reads the files in order, until one is too long or a read fails.
+pub fn read_files<B: Library>(
+    alloc: Global,
+    names: &[Text],
+    library: &mut B,
+) -> Result<Vec<NamedText>, Stop>
+    ensures names { IfOk result (λ files. map (λ f. f.name) files.items ≡ names.now) }
+    ensures texts { IfOk result (λ files. IfSome (B.files library.old) (λ told. map (λ f. f.text) files.items ≡ texts_of told names.now)) }
+    ensures short { IfOk result (λ files. All (λ f. length f.text ≤ longest_text) files.items) }
+    ensures told_short { OnOk result (IfSome (B.files library.old) (λ told. AreShort told names.now)) }
+    ensures stop { IfErr result (λ stop. IsReadEnd stop ⊎
+        ((stop ≡ Stop.TooLarge) × IfSome (B.files library.old) (λ told. IsSomeLong told names.now))) }
     ensures later { B.faults library.old ≤ B.faults library.new }
     ensures failed { IsErrOf result Stop.ReadFault → Rose (B.faults library.old) (B.faults library.new) }
 {
-    match read_text(alloc, name, library) {
-        Ok(text) => facts_of(alloc, text.as_slice()),
-        Err(stop) => Err(stop),
+    let mut files = Vec::new(alloc);
+    for name in names {
+        match read_file(alloc, name, library) {
+            Ok(file) => match files.push(file) {
+                Ok(()) => {}
+                Err(_) => return Err(Stop::Memory),
+            },
+            Err(stop) => return Err(stop),
+        }
     }
+    Ok(files)
 }
 
 /// Reads the script to its end, and tests that it has no byte.

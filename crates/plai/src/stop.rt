@@ -1,21 +1,21 @@
-// Why a call ends before its output is whole.
+// Why a call ends before it has an output.
 ghost use Rattle.std.specs.Prelude.{◌≡◌};
 ghost use Rattle.plai.specs.Stops.{status_of};
 
-/// Why a call ends before its output is whole.
+/// Why a call ends before it has an output, or before its output is written.
 #[derive(Clone, Copy, Debug, PartialEq, Eq)]
 pub enum Stop {
     /// The words form no command.
     NoCommand,
-    /// A file has too many bytes.
-    TooLong,
+    /// There are too many files, or a file has too many bytes.
+    TooLarge,
     /// The library or the script failed.
     ReadFault,
     /// The sink failed.
     WriteFault,
     /// Memory is wanting.
     Memory,
-    /// The file or the script has a form that isn't taken.
+    /// The words, the program or the script have a form that isn't taken yet.
     NotBuilt,
 }
 
@@ -26,7 +26,7 @@ impl Stop {
     {
         match self {
             Stop::NoCommand => 2,
-            Stop::TooLong => 4,
+            Stop::TooLarge => 4,
             Stop::ReadFault => 5,
             Stop::WriteFault => 6,
             Stop::Memory => 7,

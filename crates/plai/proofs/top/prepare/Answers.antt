@@ -1,15 +1,18 @@
-use Rattle.plai.proofs.Deciding.{unnamed_outcome, unnamed_early, file_ends_outcome, scripted_outcome}
+use Rattle.plai.proofs.Deciding.{stop_keeps_words, command_keeps_words, words_decide, files_decide, loading_decides, loading_prepares}
 use Rattle.plai.proofs.top.prepare.Goals as goal
 
-pub returns-in-None-clause-outcome : goal.returns-in-None-clause-outcome
-returns-in-None-clause-outcome g c = unnamed_outcome _ _ _ c.in-None.ensures
+pub returns-in-Ok-load_files-clause-outcome : goal.returns-in-Ok-load_files-clause-outcome
+returns-in-Ok-load_files-clause-outcome g c =
+    loading_prepares _ _ c.in-Ok.ensures.command _ c.as_slice.ensures c.in-Ok-read_files.files.items _ c.as_slice-in-Ok-read_files.ensures.value c.in-Ok-read_files.ensures.names
+    _ c.in-Ok-read_files.ensures.texts c.in-Ok-read_files.ensures.told_short _ c.in-Ok-load_files.ensures.loading
 
-pub returns-in-None-clause-early : goal.returns-in-None-clause-early
-returns-in-None-clause-early g c = unnamed_early _ _ _ c.in-None.ensures
+pub returns-in-Ok-read_files-clause-outcome : goal.returns-in-Ok-read_files-clause-outcome
+returns-in-Ok-read_files-clause-outcome g c =
+    loading_decides _ _ c.in-Ok.ensures.command _ c.as_slice.ensures c.in-Ok-read_files.files.items _ c.as_slice-in-Ok-read_files.ensures.value c.in-Ok-read_files.ensures.names
+    _ c.in-Ok-read_files.ensures.texts c.in-Ok-read_files.ensures.told_short _ c.in-Err-load_files.ensures.stop
 
-pub returns-in-Err-read_script-clause-outcome : goal.returns-in-Err-read_script-clause-outcome
-returns-in-Err-read_script-clause-outcome g c =
-    scripted_outcome _ _ _ c.in-Some.ensures _ c.in-Ok.ensures.short c.in-Ok.ensures.taken _ _ c.in-Err-read_script.ensures.stop
+pub returns-in-Ok-clause-outcome : goal.returns-in-Ok-clause-outcome
+returns-in-Ok-clause-outcome g c = files_decide _ _ c.in-Ok.ensures.command _ c.as_slice.ensures _ _ c.in-Err-read_files.ensures.stop
 
-pub returns-in-Err-clause-outcome : goal.returns-in-Err-clause-outcome
-returns-in-Err-clause-outcome g c = file_ends_outcome _ _ _ _ _ c.in-Some.ensures c.in-Err.ensures.stop
+pub returns-clause-outcome : goal.returns-clause-outcome
+returns-clause-outcome g c = words_decide _ _ _ c.in-Err.ensures.stop
