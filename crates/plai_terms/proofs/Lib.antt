@@ -3,6 +3,8 @@ pub mod Joined
 pub mod PatternTexts
 pub mod RowOrders
 pub mod Same
+pub mod SameNames
+pub mod SameTerms
 pub mod Shapes
 pub mod Skeletons
 pub mod Sorted
