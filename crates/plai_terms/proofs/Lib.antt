@@ -1,6 +1,8 @@
+pub mod AtomTexts
 pub mod GroupOrder
 pub mod Joined
 pub mod PatternTexts
+pub mod Reading
 pub mod RowOrders
 pub mod Same
 pub mod SameNames
@@ -10,4 +12,5 @@ pub mod Skeletons
 pub mod Sorted
 pub mod Substs
 pub mod Tables
+pub mod TermTexts
 pub mod Terms

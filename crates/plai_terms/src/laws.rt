@@ -5,6 +5,9 @@ ghost use Rattle.plai_terms.specs.declared.pred_key.PredKey.{PredKey};
 ghost use Rattle.plai_terms.specs.declared.read_term.ReadTerm.{ReadTerm};
 ghost use Rattle.plai_terms.specs.declared.row_name.RowName.{RowName};
 ghost use Rattle.plai_terms.specs.declared.term.Term.{Term};
+ghost use Rattle.plai_terms.specs.Atom.{atom_text, name_text};
+ghost use Rattle.plai_terms.specs.Print.{text_of};
+ghost use Rattle.plai_terms.specs.Term.{numbers_fit};
 ghost use Rattle.plai_terms.specs.Pattern.{pattern_text, IsGroundness};
 ghost use Rattle.plai_terms.specs.RowOrder.{IsBefore, HaveSameText};
 
@@ -37,4 +40,12 @@ pub fn equality_is_exact()
     ensures read_terms { (a b : ReadTerm) → (⟦<ReadTerm as PartialEq>⟧.eq a b ≡ true) ↔ (a ≡ b) }
     ensures patterns { (a b : Abs) → (⟦<Abs as PartialEq>⟧.eq a b ≡ true) ↔ (a ≡ b) }
     ensures row_names { (a b : RowName) → (⟦<RowName as PartialEq>⟧.eq a b ≡ true) ↔ (a ≡ b) }
+{}
+
+/// Different atoms have different texts, and so have different names as they stand before `:` or `/`, and
+/// different terms whose numbers are within their types.
+pub fn term_texts_differ()
+    ensures atoms { (a b : List ℕ) → atom_text a ≡ atom_text b → a ≡ b }
+    ensures names { (a b : List ℕ) → name_text a ≡ name_text b → a ≡ b }
+    ensures terms { (a b : Term) → numbers_fit a ≡ true → numbers_fit b ≡ true → text_of a ≡ text_of b → a ≡ b }
 {}
