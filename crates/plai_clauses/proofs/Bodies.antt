@@ -16,7 +16,7 @@ use Rattle.plai_clauses.specs.declared.cause.ClauseCause.{ClauseCause}
 use Rattle.plai_clauses.specs.declared.cause.ClauseCause.TheVariants.{Unsupported, ArityTooLarge}
 use Rattle.plai_clauses.specs.declared.cause.ClauseFail.{ClauseFail}
 use Rattle.plai_clauses.specs.declared.cause.ClauseFail.TheVariants.{Memory, Refused}
-use Rattle.plai_clauses.specs.Readable.{is_wide}
+use Rattle.plai_terms.specs.Readable.{is_wide}
 use Rattle.plai_clauses.specs.Builtins.{is_refused_key, is_builtin_key}
 use Rattle.plai_clauses.specs.Bodies.{behind, Puts}
 use Rattle.plai_clauses.specs.ClauseOf.{is_conjunction, with_goals, goals_step, goals_of, cause_of_key, unless, target_of, literal_at, literal_in, literal_of, in_front, body_of, two, two_arguments, widest}

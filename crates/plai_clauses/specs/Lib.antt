@@ -2,7 +2,6 @@ pub mod Builtins
 pub mod Bodies
 pub mod ClauseOf
 pub mod Program
-pub mod Readable
 pub mod WellFormed
 pub mod Codes
 pub mod ByModule

@@ -1,6 +1,6 @@
 //! The clause of a term that was read.
 ghost use Rattle.std.specs.Prelude.{◌≡◌, ◌<◌, ◌≤◌, ◌^◌, IfOk, ◌&&◌, nat_eq, codes, false, length, option_map, Some, None, Ok, Result, [], ◌∷◌};
-ghost use Rattle.plai_clauses.specs.Readable.{is_wide, IsReadable};
+ghost use Rattle.plai_terms.specs.Readable.{is_wide, IsReadable};
 ghost use Rattle.plai_clauses.specs.ClauseOf.{Answers, cause_of_key, target_of, head_at, head_of, literal_at, literal_of, body_of, is_conjunction, goals_of, two, two_arguments, widest, within_slots, clause_from, clause_in, clause_of};
 ghost use Rattle.plai_clauses.specs.declared.cause.ClauseCause.TheVariants.{Unsupported};
 ghost use Rattle.plai_clauses.specs.Bodies.{Puts};

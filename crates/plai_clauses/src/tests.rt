@@ -1,5 +1,5 @@
 ghost use Rattle.std.specs.Prelude.{◌≡◌};
-ghost use Rattle.plai_clauses.specs.Readable.{is_wide};
+ghost use Rattle.plai_terms.specs.Readable.{is_wide};
 
 use crate::{
     Check, CheckKind, Clause, ClauseCause, ClauseFail, Entry, Imports, Module, Program, Target,

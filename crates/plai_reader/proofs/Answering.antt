@@ -6,7 +6,7 @@ use Rattle.std.proofs.lemmas.Bool.Decides.{nat_tests}
 use Rattle.plai_terms.specs.declared.term.Term.{Term, Var, Int, Atom, Compound, the_lemmas}
 use Rattle.plai_terms.specs.declared.read_term.ReadTerm.{ReadTerm}
 use Rattle.plai_terms.specs.Term.{depth_of, has_variables_below}
-use Rattle.plai_reader.specs.Readable.{is_wide, IsReadable}
+use Rattle.plai_terms.specs.Readable.{is_wide, IsReadable}
 use Rattle.plai_lex.specs.declared.token.Token.{Token}
 use Rattle.plai_reader.specs.declared.fail.ReadTermFail.{ReadTermFail}
 use Rattle.plai_reader.specs.declared.fail.ReadTermFail.TheVariants.{Syntax, TooDeep, ArityTooLarge}

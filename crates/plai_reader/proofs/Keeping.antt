@@ -6,7 +6,7 @@ use Rattle.std.proofs.lemmas.Bool.Decides.{nat_tests}
 use Rattle.std.proofs.lemmas.List.{length-map}
 use Rattle.plai_terms.specs.declared.term.Term.{Term, Var, Int, Atom, Compound, the_lemmas}
 use Rattle.plai_terms.specs.Term.{depth_of}
-use Rattle.plai_reader.specs.Readable.{is_wide}
+use Rattle.plai_terms.specs.Readable.{is_wide}
 use Rattle.plai_reader.specs.declared.tree.Tree.TheVariants.{Whole, Wide, Deep}
 use Rattle.plai_reader.specs.Limits.{limited, kept, depth_in, is_wide_tree, terms_in, deepest, is_wide_over, kept_trees}
 

@@ -1,6 +1,5 @@
 pub mod Kinds
 pub mod Level
-pub mod Readable
 pub mod Operators
 pub mod Variables
 pub mod Roles

@@ -4,7 +4,7 @@ use Rattle.std.specs.List.{list_any, flat_map}
 use Rattle.plai_terms.specs.declared.term.Term.{Term, Var, Int, Atom, Compound}
 use Rattle.plai_terms.specs.declared.read_term.ReadTerm.{ReadTerm}
 use Rattle.plai_terms.specs.Term.{depth_of}
-use Rattle.plai_reader.specs.Readable.{is_wide}
+use Rattle.plai_terms.specs.Readable.{is_wide}
 use Rattle.plai_lex.specs.declared.token.Token.{Token}
 use Rattle.plai_reader.specs.declared.fail.ReadTermFail.{ReadTermFail}
 use Rattle.plai_reader.specs.declared.fail.ReadTermFail.TheVariants.{Syntax, TooDeep, ArityTooLarge}

@@ -1,7 +1,7 @@
 //! Reads a term from its tokens in one pass.
 ghost use Rattle.std.specs.Prelude.{◌≡◌, ◌<◌, ◌-◌, ◌^◌, length, All, IfOk};
 ghost use Rattle.plai_reader.specs.Climb.{climbing, Gives};
-ghost use Rattle.plai_reader.specs.Readable.{IsReadable};
+ghost use Rattle.plai_terms.specs.Readable.{IsReadable};
 ghost use Rattle.plai_reader.specs.Limits.{kept_trees, answer_of};
 ghost use Rattle.plai_reader.specs.Reading.{start, behind, stepped, last, read_of};
 ghost use Rattle.plai_lex.specs.Tokens.{IsWritten};

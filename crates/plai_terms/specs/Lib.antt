@@ -10,3 +10,4 @@ pub mod RowOrder
 pub mod Substitution
 pub mod Unification
 pub mod Rows
+pub mod Readable

@@ -1,7 +1,7 @@
 use Rattle.std.proofs.Common.{◌≡◌, ◌∙◌, sym, ap, subst, false, true, length, rules, List}
 use Rattle.std.proofs.lemmas.Result.{err_from_is_err_and}
 use Rattle.plai_terms.specs.declared.term.Term.{Term, Compound, the_lemmas}
-use Rattle.plai_clauses.specs.Readable.{is_wide}
+use Rattle.plai_terms.specs.Readable.{is_wide}
 use Rattle.plai_clauses.specs.Bodies.{Puts}
 use Rattle.plai_clauses.specs.ClauseOf.{body_of, is_conjunction}
 use Rattle.plai_clauses.proofs.Bodies.{put_more, put_fails, put_all, narrow_part, joined_at, single_at}

@@ -1,6 +1,6 @@
 use Rattle.std.proofs.Common.{◌≡◌, map, drop}
 use Rattle.std.specs.List.{list_any}
-use Rattle.plai_clauses.specs.Readable.{is_wide}
+use Rattle.plai_terms.specs.Readable.{is_wide}
 use Rattle.plai_clauses.proofs.tests.+is_wide.Given as goal
 
 abbrev pub invariant-loop-arg : goal.invariant-loop-arg
