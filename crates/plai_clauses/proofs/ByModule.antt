@@ -72,7 +72,7 @@ module _ {A : Type 0} (home : A → List ℕ) where
   -- an item stays behind all of its module and those before
   pub pairs_insert : (y : A) (xs : List A) → AllPairs IsBefore xs → AllPairs IsBefore (insert xs (place_behind (home y) (map home xs)) y)
   pairs_insert y [] all = AllPairs-cons IsBefore y [] (All-nil (IsBefore y)) pairs_nil
-  pairs_insert y (x ∷ xs) all = by_test (is_lt (slice_cmp nat_cmp (home y) (home x))) (λ t. rw t (first t)) (λ t. rw t (later t))
+  pairs_insert y (x ∷ xs) all = by_test (is_lt (slice_cmp nat_cmp (home y) (home x))) (λ t. rw t (first t)) (λ t. rw t (later t (pairs_insert y xs (pairs_tail x xs all))))
     where
       first : is_lt (slice_cmp nat_cmp (home y) (home x)) ≡ true → AllPairs IsBefore (y ∷ x ∷ xs)
       first t =
@@ -82,11 +82,12 @@ module _ {A : Type 0} (home : A → List ℕ) where
           (All-weaker (IsBefore x) (IsBefore y) (λ z h. IsUpTo-trans (home y) (home x) (home z) b h) xs (pairs_head x xs all)))
           all
 
-      later : is_lt (slice_cmp nat_cmp (home y) (home x)) ≡ false → AllPairs IsBefore (x ∷ insert xs (place_behind (home y) (map home xs)) y)
-      later t =
+      later : is_lt (slice_cmp nat_cmp (home y) (home x)) ≡ false → AllPairs IsBefore (insert xs (place_behind (home y) (map home xs)) y)
+          → AllPairs IsBefore (x ∷ insert xs (place_behind (home y) (map home xs)) y)
+      later t rest =
           AllPairs-cons IsBefore x (insert xs (place_behind (home y) (map home xs)) y)
           (all_insert (IsBefore x) xs (place_behind (home y) (map home xs)) y (up_to_not_below (home y) (home x) t) (pairs_head x xs all))
-          (pairs_insert y xs (pairs_tail x xs all))
+          rest
 
   remove_past : (xs : List A) (n : ℕ) → length xs ≤ n → remove xs n ≡ xs
   remove_past [] zero h = refl

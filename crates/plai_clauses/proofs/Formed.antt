@@ -19,7 +19,7 @@ use Rattle.plai_clauses.specs.declared.cause.ClauseCause.{ClauseCause}
 use Rattle.plai_clauses.specs.declared.cause.ClauseCause.TheVariants.{NotAClause, Unsupported, TooManySlots}
 use Rattle.plai_clauses.specs.declared.cause.ClauseFail.{ClauseFail}
 use Rattle.plai_clauses.specs.declared.cause.ClauseFail.TheVariants.{Memory, Refused}
-use Rattle.plai_clauses.specs.Readable.{IsReadable}
+use Rattle.plai_terms.specs.Readable.{IsReadable}
 use Rattle.plai_clauses.specs.Builtins.{is_builtin_key, is_refused_key}
 use Rattle.plai_clauses.specs.ClauseOf.{is_conjunction, goals_of, spoken_of, target_of, head_at, head_of, literal_at, literal_of, body_of, two, two_arguments, widest, within_slots, clause_with, clause_from, clause_in, clause_of, Answers}
 use Rattle.plai_clauses.specs.WellFormed.{IsTargetOf, IsWellFormedClause}

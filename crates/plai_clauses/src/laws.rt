@@ -10,7 +10,7 @@ ghost use Rattle.plai_clauses.specs.Program.{ProgramView, empty, same_pred, clau
 ghost use Rattle.plai_clauses.specs.WellFormed.{IsWellFormedClause, IsWellFormedEntry, IsWellFormedCheck, IsWellFormed};
 ghost use Rattle.plai_clauses.specs.ByModule.{AreByModule};
 ghost use Rattle.plai_clauses.specs.ClauseOf.{clause_of};
-ghost use Rattle.plai_clauses.specs.Readable.{IsReadable};
+ghost use Rattle.plai_terms.specs.Readable.{IsReadable};
 
 /// What a program of one module has: of each predicate the clauses that belong to it, in order, and the module's
 /// entries.
