@@ -2,7 +2,7 @@ ghost use Rattle.std.specs.Prelude.{◌≤◌, All, IfOk};
 ghost use Rattle.plai_terms.specs.Pattern.{arity_of};
 ghost use Rattle.plai_render.specs.Order.{IsNarrow};
 
-use crate::{PlainRow, distinct_names_are_apart, render_table, sort_rows};
+use crate::{PlainRow, distinct_names_are_apart, render_stopped, render_table, sort_rows};
 use plai_base::Mask;
 use plai_terms::{Abs, Listed, Name, PredKey, RowName};
 use std::alloc::{AllocError, Global};
@@ -77,6 +77,17 @@ row m:u/1 call (1 t f) answer none
 row m:u/1 call t answer f
 end
 ";
+    assert_eq!(rt; out.as_slice(), printed.as_slice());
+    Ok(())
+}
+
+#[test]
+fn stopped_blocks_print(rt: HostRuntime) -> Result<(), Fail> {
+    let alloc = rt.alloc();
+    let mut out = Vec::new(alloc);
+    render_stopped(alloc, 0, Some(1), &mut out)?;
+    render_stopped(alloc, 12, None, &mut out)?;
+    let printed = b"edit 0\nstopped rows 1\nend\nedit 12\nstopped groups 65536\nend\n";
     assert_eq!(rt; out.as_slice(), printed.as_slice());
     Ok(())
 }
