@@ -1,0 +1,26 @@
+ghost use Rattle.std.specs.Prelude.{◌≡◌};
+ghost use Rattle.plai_rounds.specs.Changes.{both_of};
+
+/// What a part of a round changes.
+#[derive(Clone, Copy, Debug, PartialEq, Eq)]
+pub(crate) enum Change {
+    /// No row and no answer.
+    Nothing,
+    /// Answers of rows that had one, and nothing else.
+    Grown,
+    /// Rows come, or first answers of rows.
+    Opened,
+}
+
+impl Change {
+    /// What this and a later part change together.
+    pub(crate) fn and(self, later: Change) -> Change
+        ensures { result ≡ both_of self later }
+    {
+        match (self, later) {
+            (Change::Opened, _) | (_, Change::Opened) => Change::Opened,
+            (Change::Grown, _) | (_, Change::Grown) => Change::Grown,
+            (Change::Nothing, Change::Nothing) => Change::Nothing,
+        }
+    }
+}
