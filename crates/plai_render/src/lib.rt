@@ -7,7 +7,7 @@ mod laws;
 mod order;
 
 pub use block::render_table;
-pub use laws::distinct_names_are_apart;
+pub use laws::{distinct_names_are_apart, names_have_different_texts};
 pub use order::sort_rows;
 pub use plai_terms::PlainRow;
 
