@@ -9,3 +9,4 @@ pub mod Steps
 pub mod Causes
 pub mod Ends
 pub mod Working
+pub mod Sweeping

@@ -1,5 +1,5 @@
 -- Parts of a round, one after another.
-use Rattle.std.proofs.Common.{◌≡◌, ℕ, ◌+◌, ◌<◌, ◌≤◌, List, Option, Some, None, slice_get, sym, refl, ap, ◌∙◌, subst, arith}
+use Rattle.std.proofs.Common.{◌≡◌, ℕ, ◌+◌, ◌<◌, ◌≤◌, List, length, Option, Some, None, slice_get, sym, refl, ap, ◌∙◌, subst, arith}
 use Rattle.plai_theory.specs.LeastTable.{Row}
 use Rattle.plai_domain.specs.Plain.{PlainDomain}
 use Rattle.plai_clauses.specs.Program.{ProgramView}
@@ -7,6 +7,8 @@ use Rattle.plai_eval.specs.Meaning.{as_domain}
 use Rattle.plai_rounds.specs.declared.change.Change.{Change}
 use Rattle.plai_rounds.specs.declared.change.Change.TheVariants.{Nothing, Grown, Opened}
 use Rattle.plai_rounds.specs.Changes.{both_of}
+use Rattle.plai_rounds.specs.Names.{names_of}
+use Rattle.plai_rounds.proofs.Lists.{get_some, get_within, length_map}
 use Rattle.plai_rounds.specs.Making.{IsMaking, room, ranks, Moves, IsStep}
 
 module _ (p : PlainDomain) (limit : ℕ) (a b c : List (Row (as_domain p))) where
@@ -45,3 +47,17 @@ both_nothing Grown Opened e = cc
 both_nothing Opened Nothing e = cc
 both_nothing Opened Grown e = cc
 both_nothing Opened Opened e = cc
+
+-- no row goes
+pub step_longer : (p : PlainDomain) (program : ProgramView) (limit : ℕ) (a b : List (Row (as_domain p))) (s : Change) → IsStep p program limit a b s
+    → (k : ℕ) → k < length a → k < length b
+step_longer p program limit a b s step k h =
+    let n : length (names_of p a) ≡ length a = length_map (λ (r : Row (as_domain p)). r.name) a in
+    let m : length (names_of p b) ≡ length b = length_map (λ (r : Row (as_domain p)). r.name) b in
+    let (x, e) = get_some (names_of p a) k (omega arith) in
+    let w : k < length (names_of p b) = get_within (names_of p b) k x (step.keeps k x e) in
+    omega arith
+
+-- where nothing changes the rows are the same
+pub step_same : (p : PlainDomain) (program : ProgramView) (limit : ℕ) (a b : List (Row (as_domain p))) (s : Change) → IsStep p program limit a b s → s ≡ Nothing → b ≡ a
+step_same p program limit a b s step e = subst (Moves p limit a b) e step.moves

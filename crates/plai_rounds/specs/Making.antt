@@ -90,3 +90,9 @@ abbrev pub Settles : (p : PlainDomain) → ProgramView → ℕ → List (Row (as
 Settles p program limit old new Nothing = AreQuiet p program new
 Settles p program limit old new Grown = ⊥
 Settles p program limit old new Opened = room p limit new < room p limit old
+
+-- Rounds that end so: they make the new rows too, and each name keeps its place.
+pub record IsSettling (p : PlainDomain) (program : ProgramView) (limit : ℕ) (old new : List (Row (as_domain p))) (change : Change) : Type 0 where
+  pub making : IsMaking p program limit new
+  pub keeps : (k : ℕ) (x : Name PredKey Abs) → IsAt p old k x → IsAt p new k x
+  pub settles : Settles p program limit old new change
