@@ -1,4 +1,5 @@
 -- What two parts of a round change together.
+use Rattle.std.specs.Prelude.{Bool, true, false}
 use Rattle.plai_rounds.specs.declared.change.Change.{Change}
 use Rattle.plai_rounds.specs.declared.change.Change.TheVariants.{Nothing, Grown, Opened}
 
@@ -8,3 +9,8 @@ both_of Nothing b = b
 both_of Grown Nothing = Grown
 both_of Grown b = b
 both_of Opened b = Opened
+
+-- what coming rows change
+abbrev pub change_of : Bool → Change
+change_of true = Opened
+change_of false = Nothing

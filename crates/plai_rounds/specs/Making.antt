@@ -1,5 +1,5 @@
 -- Rounds over a table in the making: what holds of its rows, and what a part of a round changes.
-use Rattle.std.specs.Prelude.{◌≡◌, ℕ, ◌+◌, ◌-◌, ◌*◌, ◌<◌, ◌≤◌, List, [], ◌∷◌, length, Option, Some, None, slice_get, sum_by}
+use Rattle.std.specs.Prelude.{◌≡◌, ℕ, ◌+◌, ◌-◌, ◌*◌, ◌<◌, ◌≤◌, List, [], ◌∷◌, length, Option, Some, None, slice_get}
 use Rattle.plai_theory.specs.Words.{IsIn}
 use Rattle.plai_theory.specs.Domain.{Name}
 use Rattle.plai_theory.specs.Evaluation.{answer_of, calls_of, join_of}
@@ -56,13 +56,18 @@ IsQuietAt p program rows x = (clause : Clause) → IsIn clause (clauses_of progr
 abbrev pub AreQuiet : (p : PlainDomain) → ProgramView → List (Row (as_domain p)) → Type 0
 AreQuiet p program rows = (x : Name PredKey Abs) → IsIn x (names_of p rows) → IsQuietAt p program rows x
 
+-- the sum of a number for each row
+abbrev pub total : (p : PlainDomain) → (Row (as_domain p) → ℕ) → List (Row (as_domain p)) → ℕ
+total p f [] = 0
+total p f (r ∷ rows) = f r + total p f rows
+
 -- how many rows and first answers may still come
 abbrev pub room : (p : PlainDomain) → ℕ → List (Row (as_domain p)) → ℕ
-room p limit rows = 2 * (limit - length rows) + sum_by (λ r. one_at_none r.answer) rows
+room p limit rows = 2 * (limit - length rows) + total p (λ r. one_at_none r.answer) rows
 
 -- the sum of the ranks of the answers
 abbrev pub ranks : (p : PlainDomain) → List (Row (as_domain p)) → ℕ
-ranks p rows = sum_by (λ r. rank_of p.rank r.answer) rows
+ranks p rows = total p (λ r. rank_of p.rank r.answer) rows
 
 -- nothing changed, answers that were there grew, or rows or first answers came
 abbrev pub Moves : (p : PlainDomain) → ℕ → List (Row (as_domain p)) → List (Row (as_domain p)) → Change → Type 0
@@ -75,3 +80,19 @@ pub record IsStep (p : PlainDomain) (program : ProgramView) (limit : ℕ) (old n
   pub making : IsMaking p program limit new
   pub keeps : (k : ℕ) (x : Name PredKey Abs) → slice_get (names_of p old) k ≡ Some x → slice_get (names_of p new) k ≡ Some x
   pub moves : Moves p limit old new change
+
+-- the row at this place has this name
+abbrev pub IsAt : (p : PlainDomain) → List (Row (as_domain p)) → ℕ → Name PredKey Abs → Type 0
+IsAt p rows k x = slice_get (names_of p rows) k ≡ Some x
+
+-- where rounds end whose changes are no later growth: nothing changes, or there is less room
+abbrev pub Settles : (p : PlainDomain) → ProgramView → ℕ → List (Row (as_domain p)) → List (Row (as_domain p)) → Change → Type 0
+Settles p program limit old new Nothing = AreQuiet p program new
+Settles p program limit old new Grown = ⊥
+Settles p program limit old new Opened = room p limit new < room p limit old
+
+-- Rounds that end so: they make the new rows too, and each name keeps its place.
+pub record IsSettling (p : PlainDomain) (program : ProgramView) (limit : ℕ) (old new : List (Row (as_domain p))) (change : Change) : Type 0 where
+  pub making : IsMaking p program limit new
+  pub keeps : (k : ℕ) (x : Name PredKey Abs) → IsAt p old k x → IsAt p new k x
+  pub settles : Settles p program limit old new change

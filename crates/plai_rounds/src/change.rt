@@ -1,5 +1,5 @@
 ghost use Rattle.std.specs.Prelude.{◌≡◌};
-ghost use Rattle.plai_rounds.specs.Changes.{both_of};
+ghost use Rattle.plai_rounds.specs.Changes.{both_of, change_of};
 
 /// What a part of a round changes.
 #[derive(Clone, Copy, Debug, PartialEq, Eq)]
@@ -13,6 +13,17 @@ pub(crate) enum Change {
 }
 
 impl Change {
+    /// What it changes that rows came, or that none did.
+    pub(crate) fn of_rows(added: bool) -> Change
+        ensures { result ≡ change_of added }
+    {
+        if added {
+            Change::Opened
+        } else {
+            Change::Nothing
+        }
+    }
+
     /// What this and a later part change together.
     pub(crate) fn and(self, later: Change) -> Change
         ensures { result ≡ both_of self later }

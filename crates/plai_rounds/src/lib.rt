@@ -7,6 +7,8 @@ mod analyse_fail;
 mod change;
 mod evaluation;
 mod present;
+mod rounds;
 mod rows;
+mod task;
 
 pub use analyse_fail::AnalyseFail;
