@@ -1,0 +1,101 @@
+-- What the terms of a file say: its first term the module (ISO/IEC 13211-2:2000, 6.2), each other one a directive
+-- (ISO/IEC 13211-1:1995, 7.4.2) or a clause. The directives `entry` and `check` are this project's.
+use Rattle.std.specs.Prelude.{ℕ, cond, nat_eq, Option, Some, None, option_map, option_and_then, ok_or, Result, Ok, Err, List, [], ◌∷◌, length, codes}
+use Rattle.std.specs.Cmp.Lexicographic.{pointwise}
+use Rattle.plai_terms.specs.declared.term.Term.{Term, out-Term}
+use Rattle.plai_terms.specs.declared.term.Term.TheOpen.{Term-F}
+use Rattle.plai_terms.specs.declared.read_term.ReadTerm.{ReadTerm}
+use Rattle.plai_clauses.specs.declared.clause.Clause.{Clause}
+use Rattle.plai_clauses.specs.declared.cause.ClauseCause.{ClauseCause}
+use Rattle.plai_clauses.specs.ClauseOf.{two_arguments, clause_of}
+use Rattle.plai_reader.specs.Operators.{Table}
+use Rattle.plai_sources.specs.declared.cause.LoadCause.{LoadCause}
+use Rattle.plai_sources.specs.declared.cause.LoadCause.TheVariants as cause
+use Rattle.plai_sources.specs.declared.items.Import.{Import}
+use Rattle.plai_sources.specs.declared.items.Header.{Header}
+use Rattle.plai_sources.specs.declared.items.Item.{Item}
+use Rattle.plai_sources.specs.declared.items.Item.TheVariants as item
+use Rattle.plai_sources.specs.Shapes.{atom_of, one_argument}
+use Rattle.plai_sources.specs.Keys.{keys_of}
+use Rattle.plai_sources.specs.Operators.{operators_of}
+use Rattle.plai_sources.specs.Properties.{entry_of, check_of}
+
+-- the name and the exports of :- module(M,[P/A,..])
+abbrev pub header : List ℕ → List (List ℕ × ℕ) → Header
+header name exports = record { «module» = name; exports = exports }
+
+abbrev pub header_from : Term × Term → Option Header
+header_from p = option_and_then (λ name. option_map (header name) (keys_of p.1)) (atom_of p.0)
+
+abbrev pub header_of : Term → Option Header
+header_of t = option_and_then (λ d. option_and_then header_from (two_arguments (codes "module") d)) (one_argument (codes ":-") t)
+
+-- What a term behind the first one says: the operators from there on, and an item, if it is one.
+pub record Said : Type 0 where
+  pub operators : Table
+  pub item : Option Item
+
+abbrev pub says : Table → Item → Said
+says table i = record { operators = table; item = Some i }
+
+-- the module that use_module(M) names in another one
+abbrev pub other_module : List ℕ → Term → Option (List ℕ)
+other_module own t = option_and_then (λ name. cond (pointwise nat_eq name own) None (Some name)) (atom_of t)
+
+abbrev pub import : List ℕ → Option (List (List ℕ × ℕ)) → Import
+import name keys = record { «module» = name; keys = keys }
+
+-- use_module(M)
+abbrev pub import_all : List ℕ → Term → Option Import
+import_all own t = option_map (λ name. import name None) (other_module own t)
+
+-- use_module(M,[P/A,..])
+abbrev pub import_some : List ℕ → Term → Term → Option Import
+import_some own t keys = option_and_then (λ name. option_map (λ ks. import name (Some ks)) (keys_of keys)) (other_module own t)
+
+abbrev pub with_item : {A : Type 0} → Table → LoadCause → (A → Item) → Option A → Result Said LoadCause
+with_item table c f None = Err c
+with_item table c f (Some x) = Ok (says table (f x))
+
+abbrev pub with_operators : Option Table → Result Said LoadCause
+with_operators None = Err cause.BadOperator
+with_operators (Some table) = Ok (record { operators = table; item = None })
+
+-- a directive, by its name and arguments, in a module
+abbrev pub directive_at : List ℕ → Table → List ℕ → List Term → Result Said LoadCause
+directive_at own table name (x ∷ []) =
+    cond (pointwise nat_eq name (codes "use_module")) (with_item table cause.BadDirective item.UseModule (import_all own x))
+    (cond (pointwise nat_eq name (codes "entry")) (with_item table cause.BadProperty item.Entry (entry_of x))
+    (cond (pointwise nat_eq name (codes "check")) (with_item table cause.BadProperty item.Check (check_of x))
+    (Err cause.BadDirective)))
+directive_at own table name (x ∷ y ∷ []) =
+    cond (pointwise nat_eq name (codes "use_module")) (with_item table cause.BadDirective item.UseModule (import_some own x y))
+    (Err cause.BadDirective)
+directive_at own table name (x ∷ y ∷ z ∷ []) =
+    cond (pointwise nat_eq name (codes "op")) (with_operators (operators_of table x y z)) (Err cause.BadDirective)
+directive_at own table name _ = Err cause.BadDirective
+
+abbrev pub directive_in : List ℕ → Table → Term-F Term → Result Said LoadCause
+directive_in own table (Term-F.Compound name args) = directive_at own table name args
+directive_in own table _ = Err cause.BadDirective
+
+abbrev pub directive_of : List ℕ → Table → Term → Result Said LoadCause
+directive_of own table t = directive_in own table (out-Term t)
+
+-- A clause, by its head's name and number of arguments and its term. What it calls is settled when all files are read.
+abbrev pub written : ReadTerm → Clause → Item
+written read c = item.Clause (record { name = c.name; arity = length c.head; read = read })
+
+abbrev pub clause_from : Table → ReadTerm → Result Clause ClauseCause → Result Said LoadCause
+clause_from table read (Err c) = Err (cause.Clause c)
+clause_from table read (Ok clause) = Ok (says table (written read clause))
+
+-- a directive `:- D`; no directive `?- D` is taken; else a clause
+abbrev pub said_from : List ℕ → Table → ReadTerm → Option Term → Option Term → Result Said LoadCause
+said_from own table read (Some directive) query = directive_of own table directive
+said_from own table read None (Some query) = Err cause.BadDirective
+said_from own table read None None = clause_from table read (clause_of own [] read)
+
+-- what a term behind the first one says in a module of this name, or why it is refused
+abbrev pub said_by : List ℕ → Table → ReadTerm → Result Said LoadCause
+said_by own table read = said_from own table read (one_argument (codes ":-") read.term) (one_argument (codes "?-") read.term)
