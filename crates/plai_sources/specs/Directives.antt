@@ -1,6 +1,6 @@
 -- What the terms of a file say: its first term the module (ISO/IEC 13211-2:2000, 6.2), each other one a directive
 -- (ISO/IEC 13211-1:1995, 7.4.2) or a clause. The directives `entry` and `check` are this project's.
-use Rattle.std.specs.Prelude.{ℕ, cond, nat_eq, Option, Some, None, option_map, option_and_then, ok_or, Result, Ok, Err, List, [], ◌∷◌, length, codes}
+use Rattle.std.specs.Prelude.{ℕ, cond, nat_eq, Option, Some, None, option_map, option_and_then, ok_or, Result, Ok, Err, List, [], ◌∷◌, codes}
 use Rattle.std.specs.Cmp.Lexicographic.{pointwise}
 use Rattle.plai_terms.specs.declared.term.Term.{Term, out-Term}
 use Rattle.plai_terms.specs.declared.term.Term.TheOpen.{Term-F}
@@ -11,7 +11,6 @@ use Rattle.plai_clauses.specs.ClauseOf.{two_arguments, clause_of}
 use Rattle.plai_reader.specs.Operators.{Table}
 use Rattle.plai_sources.specs.declared.cause.LoadCause.{LoadCause}
 use Rattle.plai_sources.specs.declared.cause.LoadCause.TheVariants as cause
-use Rattle.plai_sources.specs.declared.items.Import.{Import}
 use Rattle.plai_sources.specs.declared.items.Header.{Header}
 use Rattle.plai_sources.specs.declared.items.Item.{Item}
 use Rattle.plai_sources.specs.declared.items.Item.TheVariants as item
@@ -42,35 +41,40 @@ says table i = record { operators = table; item = Some i }
 abbrev pub other_module : List ℕ → Term → Option (List ℕ)
 other_module own t = option_and_then (λ name. cond (pointwise nat_eq name own) None (Some name)) (atom_of t)
 
-abbrev pub import : List ℕ → Option (List (List ℕ × ℕ)) → Import
-import name keys = record { «module» = name; keys = keys }
+abbrev pub import : Option (List (List ℕ × ℕ)) → List ℕ → Item
+import keys name = item.UseModule name keys
 
 -- use_module(M)
-abbrev pub import_all : List ℕ → Term → Option Import
-import_all own t = option_map (λ name. import name None) (other_module own t)
+abbrev pub import_all : List ℕ → Term → Option Item
+import_all own t = option_map (import None) (other_module own t)
 
 -- use_module(M,[P/A,..])
-abbrev pub import_some : List ℕ → Term → Term → Option Import
-import_some own t keys = option_and_then (λ name. option_map (λ ks. import name (Some ks)) (keys_of keys)) (other_module own t)
+abbrev pub import_some : List ℕ → Term → Term → Option Item
+import_some own t keys = option_and_then (λ name. option_map (λ ks. import (Some ks) name) (keys_of keys)) (other_module own t)
 
-abbrev pub with_item : {A : Type 0} → Table → LoadCause → (A → Item) → Option A → Result Said LoadCause
-with_item table c f None = Err c
-with_item table c f (Some x) = Ok (says table (f x))
+-- a directive of one argument, and of two, by its name, in a module
+abbrev pub item_of_one : List ℕ → List ℕ → Term → Result Item LoadCause
+item_of_one own name x =
+    cond (pointwise nat_eq name (codes "use_module")) (ok_or (import_all own x) cause.BadDirective)
+    (cond (pointwise nat_eq name (codes "entry")) (ok_or (option_map item.Entry (entry_of x)) cause.BadProperty)
+    (cond (pointwise nat_eq name (codes "check")) (ok_or (option_map item.Check (check_of x)) cause.BadProperty)
+    (Err cause.BadDirective)))
+
+abbrev pub item_of_two : List ℕ → List ℕ → Term → Term → Result Item LoadCause
+item_of_two own name x y = cond (pointwise nat_eq name (codes "use_module")) (ok_or (import_some own x y) cause.BadDirective) (Err cause.BadDirective)
+
+abbrev pub with_item : Table → Result Item LoadCause → Result Said LoadCause
+with_item table (Err c) = Err c
+with_item table (Ok i) = Ok (says table i)
 
 abbrev pub with_operators : Option Table → Result Said LoadCause
 with_operators None = Err cause.BadOperator
 with_operators (Some table) = Ok (record { operators = table; item = None })
 
--- a directive, by its name and arguments, in a module
+-- a directive, by its name and arguments
 abbrev pub directive_at : List ℕ → Table → List ℕ → List Term → Result Said LoadCause
-directive_at own table name (x ∷ []) =
-    cond (pointwise nat_eq name (codes "use_module")) (with_item table cause.BadDirective item.UseModule (import_all own x))
-    (cond (pointwise nat_eq name (codes "entry")) (with_item table cause.BadProperty item.Entry (entry_of x))
-    (cond (pointwise nat_eq name (codes "check")) (with_item table cause.BadProperty item.Check (check_of x))
-    (Err cause.BadDirective)))
-directive_at own table name (x ∷ y ∷ []) =
-    cond (pointwise nat_eq name (codes "use_module")) (with_item table cause.BadDirective item.UseModule (import_some own x y))
-    (Err cause.BadDirective)
+directive_at own table name (x ∷ []) = with_item table (item_of_one own name x)
+directive_at own table name (x ∷ y ∷ []) = with_item table (item_of_two own name x y)
 directive_at own table name (x ∷ y ∷ z ∷ []) =
     cond (pointwise nat_eq name (codes "op")) (with_operators (operators_of table x y z)) (Err cause.BadDirective)
 directive_at own table name _ = Err cause.BadDirective
@@ -82,19 +86,16 @@ directive_in own table _ = Err cause.BadDirective
 abbrev pub directive_of : List ℕ → Table → Term → Result Said LoadCause
 directive_of own table t = directive_in own table (out-Term t)
 
--- A clause, by its head's name and number of arguments and its term. What it calls is settled when all files are read.
-abbrev pub written : ReadTerm → Clause → Item
-written read c = item.Clause (record { name = c.name; arity = length c.head; read = read })
-
-abbrev pub clause_from : Table → ReadTerm → Result Clause ClauseCause → Result Said LoadCause
-clause_from table read (Err c) = Err (cause.Clause c)
-clause_from table read (Ok clause) = Ok (says table (written read clause))
+-- A clause is kept as its term. What it calls is settled when all files are read.
+abbrev pub clause_from : ReadTerm → Result Clause ClauseCause → Result Item LoadCause
+clause_from read (Err c) = Err (cause.Clause c)
+clause_from read (Ok clause) = Ok (item.Clause read)
 
 -- a directive `:- D`; no directive `?- D` is taken; else a clause
 abbrev pub said_from : List ℕ → Table → ReadTerm → Option Term → Option Term → Result Said LoadCause
 said_from own table read (Some directive) query = directive_of own table directive
 said_from own table read None (Some query) = Err cause.BadDirective
-said_from own table read None None = clause_from table read (clause_of own [] read)
+said_from own table read None None = with_item table (clause_from read (clause_of own [] read))
 
 -- what a term behind the first one says in a module of this name, or why it is refused
 abbrev pub said_by : List ℕ → Table → ReadTerm → Result Said LoadCause

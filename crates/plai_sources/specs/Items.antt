@@ -14,7 +14,7 @@ use Rattle.plai_sources.specs.declared.cause.LoadCause.TheVariants as cause
 use Rattle.plai_sources.specs.declared.items.Header.{Header}
 use Rattle.plai_sources.specs.declared.items.Item.{Item}
 use Rattle.plai_sources.specs.declared.items.Item.TheVariants as item
-use Rattle.plai_sources.specs.declared.items.NumberedItem.{NumberedItem}
+use Rattle.plai_sources.specs.declared.reading.Reading.{Reading}
 use Rattle.plai_sources.specs.declared.items.FileItems.{FileItems}
 use Rattle.plai_sources.specs.Directives.{Said, header_of, said_by}
 
@@ -50,14 +50,6 @@ abbrev pub last_cause : Option Failure → List Token → Option LoadCause
 last_cause (Some failure) rest = Some (cause.Lex failure.cause failure.at)
 last_cause None rest = unended rest
 
--- A file so far: the operators, its module, once the first term is read, its items in order, and how many clauses, entries and
--- checks the program has with them.
-pub record Reading : Type 0 where
-  pub operators : Table
-  pub header : Option Header
-  pub items : List NumberedItem
-  pub count : ℕ
-
 abbrev pub begun : ℕ → Reading
 begun there = record { operators = standard; header = None; items = []; count = there }
 
@@ -65,42 +57,46 @@ begun there = record { operators = standard; header = None; items = []; count = 
 abbrev pub most_items : ℕ
 most_items = 65536
 
--- an import is no item of the program
+-- an import is none of them
 abbrev pub is_counted : Item → Bool
-is_counted (item.UseModule i) = false
+is_counted (item.UseModule name keys) = false
 is_counted (item.Entry e) = true
 is_counted (item.Check c) = true
-is_counted (item.Clause c) = true
+is_counted (item.Clause read) = true
 
-abbrev pub placed : Reading → Table → ℕ → Item → ℕ → Reading
-placed r table number i count = record {
-  operators = table; header = r.header; items = r.items ++ record { term = number; item = i } ∷ []; count = count;
-}
+-- the file with one more item, of the term of that number
+abbrev pub placed : Reading → ℕ → Item → ℕ → Reading
+placed r number i count = record { operators = r.operators; header = r.header; items = r.items ++ record { term = number; item = i } ∷ []; count = count }
 
-abbrev pub with_said_item : Reading → Table → ℕ → Item → Result Reading LoadCause
-with_said_item r table number i =
+abbrev pub with_item : Reading → ℕ → Item → Result Reading LoadCause
+with_item r number i =
     cond (is_counted i)
-    (cond (nat_lt r.count most_items) (Ok (placed r table number i (r.count + 1))) (Err cause.TooManyItems))
-    (Ok (placed r table number i r.count))
+    (cond (nat_lt r.count most_items) (Ok (placed r number i (r.count + 1))) (Err cause.TooManyItems))
+    (Ok (placed r number i r.count))
+
+abbrev pub with_item_if : Reading → ℕ → Option Item → Result Reading LoadCause
+with_item_if r number None = Ok r
+with_item_if r number (Some i) = with_item r number i
+
+abbrev pub under : Table → Reading → Reading
+under table r = record { operators = table; header = r.header; items = r.items; count = r.count }
 
 -- the file with what a term of that number says
 abbrev pub with_said : Reading → ℕ → Result Said LoadCause → Result Reading LoadCause
 with_said r number (Err c) = Err c
-with_said r number (Ok said) = elim said.item [
-  | None ↦ Ok (record { operators = said.operators; header = r.header; items = r.items; count = r.count })
-  | Some i ↦ with_said_item r said.operators number i
-]
+with_said r number (Ok said) = with_item_if (under said.operators r) number said.item
 
 abbrev pub with_header : Reading → Option Header → Result Reading LoadCause
 with_header r None = Err cause.NoModule
 with_header r (Some h) = Ok (record { operators = r.operators; header = Some h; items = r.items; count = r.count })
 
 -- the first term is the module, each other one a directive or a clause
+abbrev pub with_term_under : Option Header → Reading → ℕ → ReadTerm → Result Reading LoadCause
+with_term_under None r number read = with_header r (header_of read.term)
+with_term_under (Some h) r number read = with_said r number (said_by h.module r.operators read)
+
 abbrev pub with_term : Reading → ℕ → ReadTerm → Result Reading LoadCause
-with_term r number read = elim r.header [
-  | None ↦ with_header r (header_of read.term)
-  | Some h ↦ with_said r number (said_by h.module r.operators read)
-]
+with_term r number read = with_term_under r.header r number read
 
 abbrev pub cause_of : ReadTermFail → LoadCause
 cause_of reading.TooDeep = cause.TooDeep
@@ -116,22 +112,28 @@ abbrev pub with_tokens : Reading → ℕ → List Token → Result Reading LoadC
 with_tokens r number tokens = with_answer r number (answer_of r.operators tokens)
 
 -- a file that is read to its end; one without terms has no module
+abbrev pub finished_under : Option Header → Reading → Result FileItems Refusal
+finished_under None r = Err (refusal 1 cause.NoModule)
+finished_under (Some h) r = Ok (record { «module» = h.module; exports = h.exports; items = r.items; count = r.count })
+
 abbrev pub finished : Reading → Result FileItems Refusal
-finished r = elim r.header [
-  | None ↦ Err (refusal 1 cause.NoModule)
-  | Some h ↦ Ok (record { «module» = h.module; exports = h.exports; items = r.items; count = r.count })
-]
+finished r = finished_under r.header r
 
 abbrev pub ended_by : Reading → ℕ → Option LoadCause → Result FileItems Refusal
 ended_by r number None = finished r
 ended_by r number (Some c) = Err (refusal number c)
 
+abbrev pub numbered : {A : Type 0} → ℕ → Result A LoadCause → Result A Refusal
+numbered number (Err c) = Err (refusal number c)
+numbered number (Ok x) = Ok x
+
+abbrev pub and_then : {A B : Type 0} → Result A Refusal → (A → Result B Refusal) → Result B Refusal
+and_then (Err r) f = Err r
+and_then (Ok x) f = f x
+
 abbrev pub items_from : Reading → ℕ → List (List Token) → Option LoadCause → Result FileItems Refusal
 items_from r number [] last = ended_by r number last
-items_from r number (t ∷ ts) last = elim (with_tokens r number t) [
-  | Err c ↦ Err (refusal number c)
-  | Ok next ↦ items_from next (number + 1) ts last
-]
+items_from r number (t ∷ ts) last = and_then (numbered number (with_tokens r number t)) (λ next. items_from next (number + 1) ts last)
 
 -- what tokens make of a file so far, the first term of them having that number
 abbrev pub items_of_tokens : Reading → ℕ → Tokens → Result FileItems Refusal

@@ -8,12 +8,13 @@ use Rattle.plai_terms.specs.declared.prop.Prop.{Prop}
 use Rattle.plai_terms.specs.declared.prop.Prop.TheVariants.{Ground, Var, Nonvar, Int, Indep}
 use Rattle.plai_clauses.specs.Builtins.{is_definable}
 use Rattle.plai_clauses.specs.ClauseOf.{two_arguments, goals_of}
+use Rattle.plai_clauses.specs.declared.check.CheckKind.{CheckKind}
 use Rattle.plai_clauses.specs.declared.check.CheckKind.TheVariants.{Calls, Success}
 use Rattle.plai_sources.specs.Shapes.{variable_of, one_argument, each}
 use Rattle.plai_sources.specs.declared.properties.Goal.{Goal}
 use Rattle.plai_sources.specs.declared.properties.Call.{Call}
-use Rattle.plai_sources.specs.declared.items.WrittenEntry.{WrittenEntry}
-use Rattle.plai_sources.specs.declared.items.WrittenCheck.{WrittenCheck}
+use Rattle.plai_sources.specs.declared.items.EntryItem.{EntryItem}
+use Rattle.plai_sources.specs.declared.items.CheckItem.{CheckItem}
 
 abbrev pub are_distinct : List ℕ → Bool
 are_distinct [] = true
@@ -83,32 +84,29 @@ abbrev pub call_of : Term → Option Call
 call_of t = call_from t (two_arguments (codes ":") t)
 
 -- what stands behind `entry`
-abbrev pub entry : Call → WrittenEntry
+abbrev pub entry : Call → EntryItem
 entry c = record { name = c.goal.name; arity = length c.goal.variables; pre = c.pre }
 
-abbrev pub entry_of : Term → Option WrittenEntry
+abbrev pub entry_of : Term → Option EntryItem
 entry_of t = option_map entry (call_of t)
 
 -- what stands behind `check`: `calls G : Pre`, `success G => Post` or `success (G : Pre) => Post`
-abbrev pub calls_check : Call → WrittenCheck
-calls_check c = record { kind = Calls; name = c.goal.name; arity = length c.goal.variables; pre = c.pre; post = [] }
+abbrev pub check : CheckKind → Call → List Prop → CheckItem
+check kind c post = record { kind = kind; name = c.goal.name; arity = length c.goal.variables; pre = c.pre; post = post }
 
-abbrev pub calls_of : Term → Option WrittenCheck
-calls_of t = option_and_then (λ p. option_map calls_check (call_with p)) (two_arguments (codes ":") t)
+abbrev pub calls_of : Term → Option CheckItem
+calls_of t = option_and_then (λ p. option_map (λ c. check Calls c []) (call_with p)) (two_arguments (codes ":") t)
 
-abbrev pub success_check : Call → List Prop → WrittenCheck
-success_check c post = record { kind = Success; name = c.goal.name; arity = length c.goal.variables; pre = c.pre; post = post }
+abbrev pub success_with : Term × Term → Option CheckItem
+success_with p = option_and_then (λ c. option_map (check Success c) (properties_of c.goal.variables p.1)) (call_of p.0)
 
-abbrev pub success_with : Term × Term → Option WrittenCheck
-success_with p = option_and_then (λ c. option_map (success_check c) (properties_of c.goal.variables p.1)) (call_of p.0)
-
-abbrev pub success_of : Term → Option WrittenCheck
+abbrev pub success_of : Term → Option CheckItem
 success_of t = option_and_then success_with (two_arguments (codes "=>") t)
 
-abbrev pub check_from : Option Term → Option Term → Option WrittenCheck
+abbrev pub check_from : Option Term → Option Term → Option CheckItem
 check_from (Some calls) success = calls_of calls
 check_from None (Some success) = success_of success
 check_from None None = None
 
-abbrev pub check_of : Term → Option WrittenCheck
+abbrev pub check_of : Term → Option CheckItem
 check_of t = check_from (one_argument (codes "calls") t) (one_argument (codes "success") t)

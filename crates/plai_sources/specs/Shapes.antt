@@ -1,5 +1,5 @@
 -- What a term looks like: an atom, a variable, a small integer, a compound of one argument, a list (ISO/IEC 13211-1:1995, 6.3.5).
-use Rattle.std.specs.Prelude.{ℕ, pos, negsuc, Bool, cond, ◌&&◌, nat_eq, nat_le, Option, Some, None, option_map, option_and_then, List, [], ◌∷◌, map, length, codes}
+use Rattle.std.specs.Prelude.{ℕ, pos, negsuc, Bool, false, cond, ◌&&◌, nat_eq, nat_le, Option, Some, None, option_map, option_and_then, List, [], ◌∷◌, map, length, codes}
 use Rattle.std.specs.Cmp.Lexicographic.{pointwise}
 use Rattle.plai_terms.specs.declared.term.Term.{Term, Var, Int, Atom, Compound, fold-Term, out-Term}
 use Rattle.plai_terms.specs.declared.term.Term.TheOpen.{Term-F}
@@ -37,6 +37,14 @@ one_in wanted _ = None
 
 abbrev pub one_argument : List ℕ → Term → Option Term
 one_argument wanted t = one_in wanted (out-Term t)
+
+-- the atom `[]`
+abbrev pub is_nil_in : Term-F Term → Bool
+is_nil_in (Term-F.Atom a) = pointwise nat_eq a (codes "[]")
+is_nil_in _ = false
+
+abbrev pub is_nil : Term → Bool
+is_nil t = is_nil_in (out-Term t)
 
 -- One level of a list: the atom `[]` has no items, and a cell, '.'(Head,Tail), has its head before the items of its tail.
 abbrev pub cell_items : List (Term × Option (List Term)) → Option (List Term)

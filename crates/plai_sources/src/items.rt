@@ -9,25 +9,9 @@ pub struct Header {
     pub exports: Listed<(Name, u32)>,
 }
 
-/// An import: the other module, and the names and numbers of arguments that are imported, or none for all its exports.
-#[derive(Debug, Drop)]
-pub struct Import {
-    pub module: Name,
-    pub keys: Option<Listed<(Name, u32)>>,
-}
-
-/// A clause as it was read, with its head's name and number of arguments. What its goals call is settled once the
-/// imports of all files are known.
-#[derive(Debug, Drop)]
-pub struct WrittenClause {
-    pub name: Name,
-    pub arity: u32,
-    pub read: ReadTerm,
-}
-
 /// An entry of the predicate that the module speaks of by this name and number of arguments.
 #[derive(Debug, Drop)]
-pub struct WrittenEntry {
+pub struct EntryItem {
     pub name: Name,
     pub arity: u32,
     pub pre: Listed<Prop>,
@@ -35,7 +19,7 @@ pub struct WrittenEntry {
 
 /// An assertion on the predicate that the module speaks of by this name and number of arguments.
 #[derive(Debug, Drop)]
-pub struct WrittenCheck {
+pub struct CheckItem {
     pub kind: CheckKind,
     pub name: Name,
     pub arity: u32,
@@ -46,10 +30,13 @@ pub struct WrittenCheck {
 /// What a term behind the first one says. A change of operators says nothing more.
 #[derive(Debug, Drop)]
 pub enum Item {
-    UseModule(Import),
-    Entry(WrittenEntry),
-    Check(WrittenCheck),
-    Clause(WrittenClause),
+    /// An import from the module of that name, which isn't this one: of the names and numbers of arguments that are
+    /// listed, or of all that it exports where there is no list.
+    UseModule(Name, Option<Listed<(Name, u32)>>),
+    Entry(EntryItem),
+    Check(CheckItem),
+    /// A clause as it was read. What its goals call is settled once the imports of all files are known.
+    Clause(ReadTerm),
 }
 
 /// An item and the number of its term in the file, from 1.

@@ -8,13 +8,14 @@ mod items;
 mod keys;
 mod operators;
 mod properties;
+mod reading;
 mod shape;
 mod stop;
 mod text;
 
 pub use cause::{ItemsFail, LoadCause};
 pub use items::{
-    FileItems, Header, Import, Item, NumberedItem, WrittenCheck, WrittenClause, WrittenEntry,
+    CheckItem, EntryItem, FileItems, Item, NumberedItem,
 };
 pub use text::read_items;
 

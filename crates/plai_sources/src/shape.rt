@@ -2,8 +2,8 @@
 ghost use Rattle.std.specs.Prelude.{◌≡◌, option_map};
 ghost use Rattle.std.specs.Option.{option_copied};
 ghost use Rattle.plai_clauses.specs.ClauseOf.{two, two_arguments};
-ghost use Rattle.plai_sources.specs.Shapes.{one, one_argument, atom_of, variable_of, number_up_to, list_items};
-ghost use Rattle.plai_sources.specs.Lists.{ListsItems};
+ghost use Rattle.plai_sources.specs.Shapes.{one, one_argument, atom_of, variable_of, number_up_to, is_nil, list_items};
+ghost use Rattle.plai_sources.specs.Answering.{ListsItems};
 
 use crate::stop::Stop;
 use plai_terms::{Name, Term};
@@ -92,5 +92,32 @@ pub fn number_up_to(greatest: u32, term: &Term) -> Option<u32>
             }
         }
         _ => None,
+    }
+}
+
+/// Whether the term is the atom `[]`.
+fn is_nil(term: &Term) -> bool
+    ensures { result ≡ is_nil term.now }
+{
+    match term {
+        Term::Atom(name) => name.as_slice() == b"[]".as_slice(),
+        _ => false,
+    }
+}
+
+/// The items of a list that ends with `[]`.
+pub fn list_items<'a>(alloc: Global, term: &'a Term) -> Result<Vec<&'a Term>, Stop>
+    ensures { ListsItems (list_items term.entry.now) result }
+{
+    let mut items = Vec::new(alloc);
+    let mut rest = term;
+    while let Some((head, tail)) = two_arguments(b".", rest) {
+        items.push(head)?;
+        rest = tail;
+    }
+    if is_nil(rest) {
+        Ok(items)
+    } else {
+        Err(Stop::Unfit)
     }
 }
