@@ -9,7 +9,7 @@ use Rattle.plai_sources.specs.declared.stop.TermFail.TheVariants as term
 use Rattle.plai_sources.specs.declared.stop.Stop.{Stop}
 use Rattle.plai_sources.specs.declared.stop.Stop.TheVariants as stop
 use Rattle.plai_lex.specs.declared.token.Token.{Token}
-use Rattle.plai_lex.specs.Tokens.{Tokens, with_tokens, ended}
+use Rattle.plai_lex.specs.Tokens.{Tokens, with_token, with_tokens, ended}
 use Rattle.plai_reader.specs.Operators.{Table}
 use Rattle.plai_reader.specs.Roles.{is_end}
 use Rattle.plai_sources.specs.declared.items.Item.{Item}
@@ -74,6 +74,20 @@ pub record IsWhole (tokens : List Token) : Type 0 where
   pub inside : AreInside before
   pub ends : is_end last.kind ≡ true
   pub is : tokens ≡ before ++ last ∷ []
+
+-- a token is taken, or there are no more tokens, or what is left is refused
+abbrev pub TakesToken : Tokens → Tokens → Result (Option Token) TermFail → Type 0
+TakesToken old new (Ok (Some token)) = old ≡ with_token token new
+TakesToken old new (Ok None) = old ≡ ended
+TakesToken old new (Err (term.Refused cause)) = (old.tokens ≡ []) × ((rest : List Token) → last_cause old.failure rest ≡ Some cause)
+TakesToken old new (Err term.Memory) = Unit {0}
+
+-- what tokens behind the last full stop stand for
+abbrev pub Ends : List Token → Result (Option (Vec Token Global)) TermFail → Type 0
+Ends tokens (Ok (Some v)) = ⊥
+Ends tokens (Ok None) = tokens ≡ []
+Ends tokens (Err (term.Refused cause)) = last_cause None tokens ≡ Some cause
+Ends tokens (Err term.Memory) = ⊥
 
 -- the tokens of the next term are taken, or there are no more tokens, or what is left is refused
 abbrev pub Takes : Tokens → Tokens → Result (Option (Vec Token Global)) TermFail → Type 0

@@ -1,6 +1,6 @@
 -- The items of a file (ISO/IEC 13211-1:1995, 6.2.1 and 7.4): its text is split into terms at the full stops, each term is read with
 -- the operators as the terms before it left them, and what each says is kept in order. The first term that is refused refuses the file.
-use Rattle.std.specs.Prelude.{ℕ, ◌+◌, Bool, true, false, cond, nat_lt, Option, Some, None, Result, Ok, Err, List, [], ◌∷◌, ◌++◌}
+use Rattle.std.specs.Prelude.{ℕ, ◌+◌, Bool, true, false, cond, nat_lt, Option, Some, None, ok_or, Result, Ok, Err, List, [], ◌∷◌, ◌++◌}
 use Rattle.plai_lex.specs.declared.token.Token.{Token}
 use Rattle.plai_lex.specs.Tokens.{Failure, Tokens, tokens_of}
 use Rattle.plai_terms.specs.declared.read_term.ReadTerm.{ReadTerm}
@@ -86,13 +86,13 @@ abbrev pub with_said : Reading → ℕ → Result Said LoadCause → Result Read
 with_said r number (Err c) = Err c
 with_said r number (Ok said) = with_item_if (under said.operators r) number said.item
 
-abbrev pub with_header : Reading → Option Header → Result Reading LoadCause
-with_header r None = Err cause.NoModule
-with_header r (Some h) = Ok (record { operators = r.operators; header = Some h; items = r.items; count = r.count })
+abbrev pub with_header : Reading → Result Header LoadCause → Result Reading LoadCause
+with_header r (Err c) = Err c
+with_header r (Ok h) = Ok (record { operators = r.operators; header = Some h; items = r.items; count = r.count })
 
 -- the first term is the module, each other one a directive or a clause
 abbrev pub with_term_under : Option Header → Reading → ℕ → ReadTerm → Result Reading LoadCause
-with_term_under None r number read = with_header r (header_of read.term)
+with_term_under None r number read = with_header r (ok_or (header_of read.term) cause.NoModule)
 with_term_under (Some h) r number read = with_said r number (said_by h.module r.operators read)
 
 abbrev pub with_term : Reading → ℕ → ReadTerm → Result Reading LoadCause

@@ -1,5 +1,5 @@
 -- Goals of entries and assertions and the properties of their arguments (Hermenegildo, Puebla, Bueno and Lopez-Garcia 2005).
-use Rattle.std.specs.Prelude.{ℕ, suc, Bool, true, cond, not, ◌&&◌, nat_eq, position, Option, Some, None, option_map, option_and_then, List, [], ◌∷◌, length, codes}
+use Rattle.std.specs.Prelude.{ℕ, ◌+◌, Bool, true, cond, not, ◌&&◌, nat_eq, position, Option, Some, None, option_map, option_and_then, List, [], ◌∷◌, length, codes}
 use Rattle.std.specs.List.{list_any}
 use Rattle.std.specs.Cmp.Lexicographic.{pointwise}
 use Rattle.plai_terms.specs.declared.term.Term.{Term, out-Term}
@@ -35,9 +35,12 @@ goal_in _ = None
 abbrev pub goal_of : Term → Option Goal
 goal_of t = goal_in (out-Term t)
 
--- the place of an argument of the goal, from 1
+-- the place of a variable of the goal, from 1
+abbrev pub place_among : List ℕ → ℕ → Option ℕ
+place_among variables v = option_map (λ i. i + 1) (position (λ w. nat_eq w v) variables)
+
 abbrev pub place_of : List ℕ → Term → Option ℕ
-place_of variables t = option_and_then (λ v. option_map suc (position (λ w. nat_eq w v) variables)) (variable_of t)
+place_of variables t = option_and_then (place_among variables) (variable_of t)
 
 -- the property of that name of one argument
 abbrev pub property_named : List ℕ → ℕ → Option Prop

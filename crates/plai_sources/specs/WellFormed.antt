@@ -1,5 +1,5 @@
 -- What is known of the items of a file.
-use Rattle.std.specs.Prelude.{◌≡◌, ℕ, ◌≤◌, All, IsTrue, List, [], IsOk, length}
+use Rattle.std.specs.Prelude.{◌≡◌, ℕ, ◌≤◌, All, IsTrue, Option, Some, None, List, [], IsOk}
 use Rattle.plai_theory.specs.Words.{IsIn}
 use Rattle.plai_terms.specs.declared.read_term.ReadTerm.{ReadTerm}
 use Rattle.plai_terms.specs.Readable.{IsReadable}
@@ -13,6 +13,9 @@ use Rattle.plai_sources.specs.declared.items.EntryItem.{EntryItem}
 use Rattle.plai_sources.specs.declared.items.CheckItem.{CheckItem}
 use Rattle.plai_sources.specs.declared.items.NumberedItem.{NumberedItem}
 use Rattle.plai_sources.specs.declared.items.FileItems.{FileItems}
+use Rattle.plai_sources.specs.declared.items.Header.{Header}
+use Rattle.plai_sources.specs.declared.reading.Reading.{Reading}
+use Rattle.plai_sources.specs.Items.{most_items}
 
 -- a term as it was read that says a clause in the module
 pub record IsClauseItem (own : List ℕ) (read : ReadTerm) : Type 0 where
@@ -40,3 +43,13 @@ IsWellFormedItem own (item.Clause read) = IsClauseItem own read
 -- each item of the file is well formed
 abbrev pub AreWellFormedItems : FileItems → Type 0
 AreWellFormedItems file = (numbered : NumberedItem) → IsIn numbered file.items → IsWellFormedItem file.module numbered.item
+
+-- the items of a file so far are well formed; before its first term it has none
+abbrev pub AreWellFormedUnder : Option Header → List NumberedItem → Type 0
+AreWellFormedUnder None items = items ≡ []
+AreWellFormedUnder (Some h) items = (numbered : NumberedItem) → IsIn numbered items → IsWellFormedItem h.module numbered.item
+
+-- a file so far is well formed, and with it the program has no more items than are allowed, if it hadn't before
+pub record IsGood (there : ℕ) (r : Reading) : Type 0 where
+  pub items : AreWellFormedUnder r.header r.items
+  pub few : there ≤ most_items → r.count ≤ most_items

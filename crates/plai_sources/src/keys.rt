@@ -1,5 +1,4 @@
 //! Lists of predicates, as `module` and `use_module` have them.
-ghost use Rattle.std.specs.Prelude.{map};
 ghost use Rattle.plai_sources.specs.Shapes.{each};
 ghost use Rattle.plai_sources.specs.Keys.{key, key_of, keys_of};
 ghost use Rattle.plai_sources.specs.Answering.{Gives, Lists};
@@ -35,7 +34,7 @@ fn key_of(alloc: Global, term: &Term) -> Result<(Name, u32), Stop>
 }
 
 fn each_key(alloc: Global, items: &[&Term]) -> Result<Vec<(Name, u32)>, Stop>
-    ensures { Lists (each key_of (map (λ x. x.now) items.now)) result }
+    ensures { Lists (each (λ item. key_of item.now) items.now) result }
 {
     let mut keys = Vec::new(alloc);
     for item in items {
@@ -44,10 +43,16 @@ fn each_key(alloc: Global, items: &[&Term]) -> Result<Vec<(Name, u32)>, Stop>
     Ok(keys)
 }
 
+fn list_keys(alloc: Global, term: &Term) -> Result<Vec<(Name, u32)>, Stop>
+    ensures { Lists (keys_of term.now) result }
+{
+    let items = list_items(alloc, term)?;
+    each_key(alloc, items.as_slice())
+}
+
 /// The names and numbers of arguments of `[P/A,..]`, each of which a program may define (ISO/IEC 13211-1:1995, 7.1.6.6).
 pub fn keys(alloc: Global, term: &Term) -> Result<Listed<(Name, u32)>, Stop>
     ensures { Gives (keys_of term.now) result }
 {
-    let items = list_items(alloc, term)?;
-    Ok(Listed::new(each_key(alloc, items.as_slice())?))
+    Ok(Listed::new(list_keys(alloc, term)?))
 }

@@ -14,10 +14,5 @@ mod stop;
 mod text;
 
 pub use cause::{ItemsFail, LoadCause};
-pub use items::{
-    CheckItem, EntryItem, FileItems, Item, NumberedItem,
-};
+pub use items::{CheckItem, EntryItem, FileItems, Item, NumberedItem};
 pub use text::read_items;
-
-#[cfg(test)]
-mod tests;

@@ -1,6 +1,6 @@
 //! The directive `op`.
-ghost use Rattle.std.specs.Prelude.{◌≡◌, [], ◌∷◌, map};
-ghost use Rattle.plai_sources.specs.Shapes.{each, atom_of};
+ghost use Rattle.std.specs.Prelude.{◌≡◌, [], ◌∷◌, option_and_then};
+ghost use Rattle.plai_sources.specs.Shapes.{each, atom_of, list_items};
 ghost use Rattle.plai_sources.specs.Operators.{kind_named, kind_of, some_names, names_of, with_each, operators_of};
 ghost use Rattle.plai_sources.specs.Answering.{Gives, Lists, Changes};
 
@@ -43,13 +43,20 @@ fn kind(term: &Term) -> Option<OpKind>
 }
 
 fn each_atom(alloc: Global, items: &[&Term]) -> Result<Vec<Name>, Stop>
-    ensures { Lists (each atom_of (map (λ x. x.now) items.now)) result }
+    ensures { Lists (each (λ item. atom_of item.now) items.now) result }
 {
     let mut names = Vec::new(alloc);
     for item in items {
         names.push(atom(item).ok_or(Stop::Unfit)?.copy(alloc)?)?;
     }
     Ok(names)
+}
+
+fn list_atoms(alloc: Global, term: &Term) -> Result<Vec<Name>, Stop>
+    ensures { Lists (option_and_then (each atom_of) (list_items term.now)) result }
+{
+    let items = list_items(alloc, term)?;
+    each_atom(alloc, items.as_slice())
 }
 
 fn some_names(names: Vec<Name>) -> Result<Vec<Name>, Stop>
@@ -67,10 +74,7 @@ fn names(alloc: Global, term: &Term) -> Result<Vec<Name>, Stop>
 {
     match atom(term) {
         Some(name) => Ok(vec![in alloc; name.copy(alloc)?]?),
-        None => {
-            let items = list_items(alloc, term)?;
-            some_names(each_atom(alloc, items.as_slice())?)
-        }
+        None => some_names(list_atoms(alloc, term)?),
     }
 }
 

@@ -1,8 +1,8 @@
 //! Goals of entries and assertions, and properties of their arguments.
-ghost use Rattle.std.specs.Prelude.{◌≡◌, ◌≤◌, [], ◌∷◌, length, IfOk, vec_len};
+ghost use Rattle.std.specs.Prelude.{◌≡◌, ◌≤◌, [], ◌∷◌, length, nat_eq, position, IfOk, vec_len};
 ghost use Rattle.plai_clauses.specs.ClauseOf.{is_conjunction, goals_of};
 ghost use Rattle.plai_sources.specs.Shapes.{each, variable_of};
-ghost use Rattle.plai_sources.specs.Properties.{are_distinct, open_goal, goal_at, goal_of, place_of, property_named, apart, property_at, property_of, properties_of, call_with, call_of, entry_of, check, calls_of, success_of, check_of};
+ghost use Rattle.plai_sources.specs.Properties.{are_distinct, open_goal, goal_at, goal_of, place_among, place_of, property_named, apart, property_at, property_of, properties_of, call_with, call_of, entry_of, check, calls_of, success_of, check_of};
 ghost use Rattle.plai_sources.specs.Answering.{Gives, Lists, Puts};
 
 use crate::items::{CheckItem, EntryItem};
@@ -75,7 +75,7 @@ fn goal_at(alloc: Global, name: &Name, args: &[Term]) -> Result<Goal, Stop>
 }
 
 /// The goal of an entry or assertion: an atom, or a compound of different variables, that a program may define.
-fn goal(alloc: Global, term: &Term) -> Result<Goal, Stop>
+fn make_goal(alloc: Global, term: &Term) -> Result<Goal, Stop>
     ensures goal { Gives (goal_of term.now) result }
     ensures few { IfOk result (λ goal. length goal.variables ≤ 16) }
 {
@@ -86,14 +86,29 @@ fn goal(alloc: Global, term: &Term) -> Result<Goal, Stop>
     }
 }
 
+fn index_of(variables: &[u32], number: u32) -> Option<usize>
+    ensures { result ≡ position (λ w. nat_eq w number) variables.now }
+{
+    variables.iter().position(|v| *v == number)
+}
+
+/// The place of a variable among others, from 1.
+fn place_among(variables: &[u32], number: u32) -> Option<u32>
+    requires { length variables.now ≤ 16 }
+    ensures { result ≡ place_among variables.now number }
+{
+    match index_of(variables, number) {
+        Some(index) => Some(index as u32 + 1),
+        None => None,
+    }
+}
+
 /// The place of an argument of the goal, from 1.
 fn place(variables: &[u32], term: &Term) -> Option<u32>
     requires { length variables.now ≤ 16 }
     ensures { result ≡ place_of variables.now term.now }
 {
-    let number = variable(term)?;
-    let index = variables.iter().position(|v| *v == number)?;
-    Some(index as u32 + 1)
+    place_among(variables, variable(term)?)
 }
 
 fn property_named(name: &Name, place: u32) -> Option<Prop>
@@ -196,24 +211,24 @@ fn properties(alloc: Global, goal: &Goal, term: &Term) -> Result<Listed<Prop>, S
 }
 
 /// The goal of `G : Pre` and its properties.
-fn call_with(alloc: Global, open: &Term, pre: &Term) -> Result<Call, Stop>
-    ensures call { Gives (call_with (open.now, pre.now)) result }
+fn call_with(alloc: Global, left: &Term, pre: &Term) -> Result<Call, Stop>
+    ensures call { Gives (call_with (left.now, pre.now)) result }
     ensures few { IfOk result (λ call. length call.goal.variables ≤ 16) }
 {
-    let goal = goal(alloc, open)?;
+    let goal = make_goal(alloc, left)?;
     let pre = properties(alloc, &goal, pre)?;
     Ok(Call { goal, pre })
 }
 
 /// A goal, with properties where it stands before `:`.
-fn call(alloc: Global, term: &Term) -> Result<Call, Stop>
+fn make_call(alloc: Global, term: &Term) -> Result<Call, Stop>
     ensures call { Gives (call_of term.now) result }
     ensures few { IfOk result (λ call. length call.goal.variables ≤ 16) }
 {
     match two_arguments(b":", term) {
-        Some((open, pre)) => call_with(alloc, open, pre),
+        Some((left, pre)) => call_with(alloc, left, pre),
         None => Ok(Call {
-            goal: goal(alloc, term)?,
+            goal: make_goal(alloc, term)?,
             pre: Listed::new(Vec::new(alloc)),
         }),
     }
@@ -223,7 +238,7 @@ fn call(alloc: Global, term: &Term) -> Result<Call, Stop>
 pub fn entry(alloc: Global, term: &Term) -> Result<EntryItem, Stop>
     ensures { Gives (entry_of term.now) result }
 {
-    let Call { goal, pre } = call(alloc, term)?;
+    let Call { goal, pre } = make_call(alloc, term)?;
     let Goal { name, variables } = goal;
     let arity = variables.as_slice().len() as u32;
     Ok(EntryItem { name, arity, pre })
@@ -248,8 +263,8 @@ fn make_check(kind: CheckKind, call: Call, post: Listed<Prop>) -> CheckItem
 fn calls(alloc: Global, term: &Term) -> Result<CheckItem, Stop>
     ensures { Gives (calls_of term.now) result }
 {
-    let (open, pre) = two_arguments(b":", term).ok_or(Stop::Unfit)?;
-    let call = call_with(alloc, open, pre)?;
+    let (left, pre) = two_arguments(b":", term).ok_or(Stop::Unfit)?;
+    let call = call_with(alloc, left, pre)?;
     Ok(make_check(CheckKind::Calls, call, Listed::new(Vec::new(alloc))))
 }
 
@@ -258,7 +273,7 @@ fn success(alloc: Global, term: &Term) -> Result<CheckItem, Stop>
     ensures { Gives (success_of term.now) result }
 {
     let (before, after) = two_arguments(b"=>", term).ok_or(Stop::Unfit)?;
-    let call = call(alloc, before)?;
+    let call = make_call(alloc, before)?;
     let post = properties(alloc, &call.goal, after)?;
     Ok(make_check(CheckKind::Success, call, post))
 }
