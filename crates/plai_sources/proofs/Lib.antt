@@ -4,3 +4,4 @@ pub mod Joined
 pub mod OperatorLists
 pub mod Splits
 pub mod Formed
+pub mod Terms

@@ -1,11 +1,11 @@
 //! What a term of a file says: its module, a directive or a clause.
-ghost use Rattle.std.specs.Prelude.{◌≡◌, Option, option_map, ok_or, IfOk, [], codes};
+ghost use Rattle.std.specs.Prelude.{◌≡◌, Option, option_map, ok_or, []};
 ghost use Rattle.plai_terms.specs.Readable.{IsReadable};
-ghost use Rattle.plai_clauses.specs.ClauseOf.{clause_of, two_arguments};
-ghost use Rattle.plai_sources.specs.Directives.{header_from, header_of, other_module, import_all, import_some, item_of_one, item_of_two, directive_at, directive_of, clause_from, said_by};
+ghost use Rattle.plai_clauses.specs.ClauseOf.{clause_of};
+ghost use Rattle.plai_sources.specs.Directives.{header_from, header_of, other_module, import_all, import_some, item_of_one, item_of_two, with_operators, directive_at, directive_of, clause_from, said_by};
+ghost use Rattle.plai_sources.specs.Operators.{operators_of};
 ghost use Rattle.plai_sources.specs.Properties.{entry_of, check_of};
 ghost use Rattle.plai_sources.specs.Answering.{Gives, Answers, Says};
-ghost use Rattle.plai_sources.specs.WellFormed.{IsWellFormedItem};
 
 use crate::cause::LoadCause;
 use crate::items::{Header, Item};
@@ -75,16 +75,64 @@ fn import_some(alloc: Global, own: &Name, module: &Term, exports: &Term) -> Resu
     Ok(Item::UseModule(name, Some(keys)))
 }
 
-fn entry_item(alloc: Global, term: &Term) -> Result<Item, Stop>
+/// The item of `use_module(M)`.
+fn use_all(alloc: Global, own: &Name, module: &Term) -> Result<Item, TermFail>
+    ensures { Answers (ok_or (import_all own.now «module».now) LoadCause.BadDirective) result }
+{
+    or_refuse(import_all(alloc, own, module), LoadCause::BadDirective)
+}
+
+/// The item of `use_module(M,[P/A,..])`.
+fn use_some(alloc: Global, own: &Name, module: &Term, exports: &Term) -> Result<Item, TermFail>
+    ensures { Answers (ok_or (import_some own.now «module».now exports.now) LoadCause.BadDirective) result }
+{
+    or_refuse(
+        import_some(alloc, own, module, exports),
+        LoadCause::BadDirective,
+    )
+}
+
+fn make_entry(alloc: Global, term: &Term) -> Result<Item, Stop>
     ensures { Gives (option_map Item.Entry (entry_of term.now)) result }
 {
     Ok(Item::Entry(entry(alloc, term)?))
 }
 
-fn check_item(alloc: Global, term: &Term) -> Result<Item, Stop>
+fn make_check(alloc: Global, term: &Term) -> Result<Item, Stop>
     ensures { Gives (option_map Item.Check (check_of term.now)) result }
 {
     Ok(Item::Check(check(alloc, term)?))
+}
+
+/// The item of `entry`.
+fn entry_item(alloc: Global, term: &Term) -> Result<Item, TermFail>
+    ensures { Answers (ok_or (option_map Item.Entry (entry_of term.now)) LoadCause.BadProperty) result }
+{
+    or_refuse(make_entry(alloc, term), LoadCause::BadProperty)
+}
+
+/// The item of `check`.
+fn check_item(alloc: Global, term: &Term) -> Result<Item, TermFail>
+    ensures { Answers (ok_or (option_map Item.Check (check_of term.now)) LoadCause.BadProperty) result }
+{
+    or_refuse(make_check(alloc, term), LoadCause::BadProperty)
+}
+
+/// Changes the operators as `op` says. It leaves no item.
+fn operator_directive(
+    alloc: Global,
+    ops: &mut OpTable,
+    priority: &Term,
+    kind: &Term,
+    names: &Term,
+) -> Result<Option<Item>, TermFail>
+    ensures { Says (with_operators (operators_of ops.old priority.now kind.now names.now)) ops.new result }
+{
+    match change_operators(alloc, ops, priority, kind, names) {
+        Ok(()) => Ok(None),
+        Err(Stop::Memory) => Err(TermFail::Memory),
+        Err(Stop::Unfit) => Err(TermFail::Refused(LoadCause::BadOperator)),
+    }
 }
 
 /// The item of a directive of one argument.
@@ -93,13 +141,13 @@ fn item_of_one(alloc: Global, own: &Name, name: &Name, arg: &Term) -> Result<Ite
 {
     let name = name.as_slice();
     if name == b"use_module".as_slice() {
-        return or_refuse(import_all(alloc, own, arg), LoadCause::BadDirective);
+        return use_all(alloc, own, arg);
     }
     if name == b"entry".as_slice() {
-        return or_refuse(entry_item(alloc, arg), LoadCause::BadProperty);
+        return entry_item(alloc, arg);
     }
     if name == b"check".as_slice() {
-        return or_refuse(check_item(alloc, arg), LoadCause::BadProperty);
+        return check_item(alloc, arg);
     }
     Err(TermFail::Refused(LoadCause::BadDirective))
 }
@@ -115,10 +163,7 @@ fn item_of_two(
     ensures { Answers (item_of_two own.now name.now first.now second.now) result }
 {
     if name.as_slice() == b"use_module".as_slice() {
-        return or_refuse(
-            import_some(alloc, own, first, second),
-            LoadCause::BadDirective,
-        );
+        return use_some(alloc, own, first, second);
     }
     Err(TermFail::Refused(LoadCause::BadDirective))
 }
@@ -140,9 +185,7 @@ fn directive_at(
             if name.as_slice() != b"op".as_slice() {
                 return Err(TermFail::Refused(LoadCause::BadDirective));
             }
-            let changed = change_operators(alloc, ops, priority, kind, names);
-            or_refuse(changed, LoadCause::BadOperator)?;
-            Ok(None)
+            operator_directive(alloc, ops, priority, kind, names)
         }
         _ => Err(TermFail::Refused(LoadCause::BadDirective)),
     }
