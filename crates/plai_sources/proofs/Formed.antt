@@ -1,13 +1,12 @@
 -- What terms say is well formed.
-use Rattle.std.proofs.Common.{◌≡◌, ◌∙◌, ℕ, ◌+◌, ◌≤◌, ◌<◌, ◌⊎◌, inl, inr, ℤ, Bool, true, false, not, ◌&&◌, cond, Option, Some, None, Result, Ok, Err, List, [], ◌∷◌, ◌++◌, length, refl, sym, ap, subst, arith, rules, codes}
+use Rattle.std.proofs.Common.{◌≡◌, ◌∙◌, ℕ, ◌+◌, ◌≤◌, ◌<◌, ◌⊎◌, inl, inr, Bool, true, false, not, ◌&&◌, cond, Option, Some, None, Result, Ok, Err, List, [], ◌∷◌, ◌++◌, length, refl, sym, ap, subst, arith, codes}
 use Rattle.std.specs.Prelude.{All, option_map, option_and_then, ok_or, position, nat_le, nat_lt, nat_eq, IfSome, IsOk}
-use Rattle.std.specs.List.{AllByRecursion}
 use Rattle.std.specs.Cmp.Lexicographic.{pointwise}
 use Rattle.std.proofs.lemmas.Bool.Decides.{nat_tests}
 use Rattle.std.proofs.lemmas.List.Elements.{All-nil}
 use Rattle.std.proofs.lemmas.List.Quantifiers.{position-Some}
 use Rattle.plai_theory.specs.Words.{IsIn}
-use Rattle.plai_terms.specs.declared.term.Term.{Term, Var, Int, Atom, Compound, out-Term, the_lemmas}
+use Rattle.plai_terms.specs.declared.term.Term.{Term, out-Term}
 use Rattle.plai_terms.specs.declared.term.Term.TheOpen.{Term-F}
 use Rattle.plai_terms.specs.declared.prop.Prop.{Prop}
 use Rattle.plai_terms.specs.declared.prop.Prop.TheVariants as property
@@ -36,9 +35,9 @@ use Rattle.plai_sources.specs.Shapes.{variable_of, one_argument, each}
 use Rattle.plai_sources.specs.Keys.{keys_of}
 use Rattle.plai_sources.specs.Properties.{are_distinct, open_goal, goal_at, goal_in, goal_of, place_among, place_of, property_named, apart, property_at, property_in, property_of, properties_of, call, call_with, call_from, call_of, entry, entry_of, check, calls_of, success_with, success_of, check_from, check_of}
 use Rattle.plai_sources.specs.Operators.{operators_of}
-use Rattle.plai_sources.specs.Directives.{Said, other_module, import, import_all, import_some, item_of_one, item_of_two, with_item, with_operators, directive_at, directive_in, directive_of, clause_from, said_from, said_by, header_of}
+use Rattle.plai_sources.specs.Directives.{Said, other_module, import, import_all, import_some, item_of_one, item_of_two, with_item, with_operators, directive_at, directive_in, clause_from, said_from, said_by, header_of}
 use Rattle.plai_sources.specs.Items.{most_items, is_counted, placed, with_item as with_placed, with_item_if, under, with_said, with_header, with_term_under, with_term}
-use Rattle.plai_sources.specs.WellFormed.{IsClauseItem, IsEntryItem, IsCheckItem, IsWellFormedItem, AreWellFormedUnder, IsGood}
+use Rattle.plai_sources.specs.WellFormed.{IsEntryItem, IsCheckItem, IsWellFormedItem, AreWellFormedUnder, IsGood}
 use Rattle.plai_sources.proofs.Each.{length-each, All-each}
 
 -- tests and options

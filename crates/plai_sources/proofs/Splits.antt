@@ -1,11 +1,11 @@
 -- Terms of tokens, one at a time.
-use Rattle.std.proofs.Common.{◌≡◌, ◌∙◌, ℕ, ◌+◌, Bool, true, false, cond, Option, Some, None, Result, Ok, Err, List, [], ◌∷◌, ◌++◌, length, append_assoc, append-nil, refl, sym, ap, subst, arith}
+use Rattle.std.proofs.Common.{◌≡◌, ◌∙◌, ℕ, ◌+◌, Bool, true, false, cond, Some, Err, List, [], ◌∷◌, ◌++◌, refl, sym, ap}
 use Rattle.plai_lex.specs.declared.token.Token.{Token}
-use Rattle.plai_lex.specs.Tokens.{Failure, Tokens, with_token, with_tokens, ended}
+use Rattle.plai_lex.specs.Tokens.{Tokens, with_tokens}
 use Rattle.plai_reader.specs.Roles.{is_end}
 use Rattle.plai_sources.specs.declared.cause.LoadCause.{LoadCause}
 use Rattle.plai_sources.specs.declared.reading.Reading.{Reading}
-use Rattle.plai_sources.specs.Items.{Refusal, refusal, Split, with_first, split, unended, last_cause, with_tokens as with_term, finished, ended_by, numbered, and_then, items_from, items_of_tokens}
+use Rattle.plai_sources.specs.Items.{refusal, Split, with_first, split, last_cause, with_tokens as with_term, ended_by, numbered, and_then, items_from, items_of_tokens}
 use Rattle.plai_sources.specs.Answering.{AreInside, IsWhole}
 
 pub AreInside-push : (xs : List Token) (x : Token) → AreInside xs → is_end x.kind ≡ false → AreInside (xs ++ x ∷ [])

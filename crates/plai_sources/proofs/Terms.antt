@@ -1,5 +1,5 @@
 -- One term of a file, and the tokens of terms as they are taken.
-use Rattle.std.proofs.Common.{◌≡◌, ◌∙◌, ℕ, ◌+◌, ◌≤◌, ◌<◌, ◌^◌, Bool, true, false, Option, Some, None, Result, Ok, Err, Vec, Global, List, [], ◌∷◌, ◌++◌, length, append_assoc, append-nil, length-append, refl, sym, ap, subst, arith, rules}
+use Rattle.std.proofs.Common.{◌≡◌, ◌∙◌, ℕ, ◌+◌, ◌≤◌, true, Option, Some, None, Result, Ok, Err, Vec, Global, List, [], ◌∷◌, ◌++◌, length, append_assoc, append-nil, length-append, refl, sym, ap, subst, arith}
 use Rattle.std.specs.Prelude.{All, IfOk, IfSome}
 use Rattle.plai_lex.specs.declared.token.Token.{Token}
 use Rattle.plai_lex.specs.Tokens.{Tokens, with_token, with_tokens, ended, IsWritten}
@@ -14,15 +14,14 @@ use Rattle.plai_sources.specs.declared.stop.TermFail.{TermFail}
 use Rattle.plai_sources.specs.declared.stop.TermFail.TheVariants as term
 use Rattle.plai_sources.specs.declared.items.Header.{Header}
 use Rattle.plai_sources.specs.declared.items.Item.{Item}
-use Rattle.plai_sources.specs.declared.items.NumberedItem.{NumberedItem}
 use Rattle.plai_sources.specs.declared.items.FileItems.{FileItems}
 use Rattle.plai_sources.specs.declared.reading.Reading.{Reading}
 use Rattle.plai_sources.specs.Directives.{said_by}
 use Rattle.plai_sources.specs.Items.{Refusal, refusal, split, last_cause, with_item_if, with_said, with_term_under, with_term, with_tokens as with_tokens_of, finished, finished_under, numbered, and_then, items_of_tokens}
-use Rattle.plai_sources.specs.WellFormed.{IsGood, AreWellFormedItems, AreWellFormedUnder, IsWellFormedItem}
+use Rattle.plai_sources.specs.WellFormed.{IsGood, AreWellFormedItems, AreWellFormedUnder}
 use Rattle.plai_sources.specs.Answering.{Answers, AnswersFile, AreInside, IsWhole, TakesToken, Ends, Takes, Numbers}
 use Rattle.plai_sources.proofs.Formed.{term-good}
-use Rattle.plai_sources.proofs.Splits.{AreInside-push, takes_whole, refuses_rest, inside_terms, inside_rest}
+use Rattle.plai_sources.proofs.Splits.{takes_whole, inside_terms, inside_rest}
 
 -- a term behind the first one
 pub add_said : (r : Reading) (n : ℕ) (read : ReadTerm) (h : Header) (ops : Table) (i : Option Item) (res : Result Reading TermFail) → r.header ≡ Some h

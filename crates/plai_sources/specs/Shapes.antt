@@ -1,5 +1,5 @@
 -- What a term looks like: an atom, a variable, a small integer, a compound of one argument, a list (ISO/IEC 13211-1:1995, 6.3.5).
-use Rattle.std.specs.Prelude.{ℕ, pos, negsuc, Bool, false, cond, ◌&&◌, nat_eq, nat_le, Option, Some, None, option_map, option_and_then, List, [], ◌∷◌, map, length, codes}
+use Rattle.std.specs.Prelude.{ℕ, pos, Bool, false, cond, nat_eq, nat_le, Option, Some, None, option_map, option_and_then, List, [], ◌∷◌, map, codes}
 use Rattle.std.specs.Cmp.Lexicographic.{pointwise}
 use Rattle.plai_terms.specs.declared.term.Term.{Term, Var, Int, Atom, Compound, fold-Term, out-Term}
 use Rattle.plai_terms.specs.declared.term.Term.TheOpen.{Term-F}

@@ -1,6 +1,6 @@
 use Rattle.std.proofs.Common.{◌≡◌, ◌∙◌, sym, ap, subst, false, true, length, List}
 use Rattle.std.proofs.lemmas.Result.{err_from_is_err_and}
-use Rattle.plai_terms.specs.declared.term.Term.{Term, Compound}
+use Rattle.plai_terms.specs.declared.term.Term.{Term}
 use Rattle.plai_clauses.specs.ClauseOf.{is_conjunction}
 use Rattle.plai_clauses.proofs.Bodies.{joined_at, single_at}
 use Rattle.plai_sources.specs.Shapes.{each}

@@ -1,6 +1,5 @@
-use Rattle.std.proofs.Common.{◌≡◌, sym, subst, ap, ◌∙◌, refl, arith}
+use Rattle.std.proofs.Common.{sym, subst, ap, ◌∙◌, refl, arith}
 use Rattle.std.proofs.lemmas.Result.{err_from_is_err_and}
-use Rattle.plai_lex.specs.Tokens.{tokens_of}
 use Rattle.plai_sources.specs.Items.{begun, items_of_tokens, items_of}
 use Rattle.plai_sources.specs.WellFormed.{IsGood}
 use Rattle.plai_sources.proofs.Terms.{taken, sizes, goes_on, stops, finishes-formed, good_next}
