@@ -1,5 +1,5 @@
 -- Parts of a round, one after another.
-use Rattle.std.proofs.Common.{◌≡◌, ℕ, ◌+◌, ◌<◌, ◌≤◌, List, length, Option, Some, None, slice_get, sym, refl, ap, ◌∙◌, subst, arith}
+use Rattle.std.proofs.Common.{◌≡◌, ℕ, zero, suc, ◌+◌, ◌<◌, ◌≤◌, List, length, Option, Some, None, slice_get, sym, refl, ap, ◌∙◌, subst, arith}
 use Rattle.plai_theory.specs.LeastTable.{Row}
 use Rattle.plai_domain.specs.Plain.{PlainDomain}
 use Rattle.plai_clauses.specs.Program.{ProgramView}
@@ -7,7 +7,9 @@ use Rattle.plai_eval.specs.Meaning.{as_domain}
 use Rattle.plai_rounds.specs.declared.change.Change.{Change}
 use Rattle.plai_rounds.specs.declared.change.Change.TheVariants.{Nothing, Grown, Opened}
 use Rattle.plai_rounds.specs.Changes.{both_of}
-use Rattle.plai_rounds.specs.Names.{names_of}
+use Rattle.plai_rounds.specs.Names.{names_of, row_at, rows_of}
+use Rattle.plai_terms.specs.declared.abs.Abs.{Abs}
+use Rattle.plai_domain.specs.declared.key.Key.{Key}
 use Rattle.plai_rounds.proofs.Lists.{get_some, get_within, length_map}
 use Rattle.plai_rounds.specs.Making.{IsMaking, room, ranks, Moves, IsStep}
 
@@ -61,3 +63,15 @@ step_longer p program limit a b s step k h =
 -- where nothing changes the rows are the same
 pub step_same : (p : PlainDomain) (program : ProgramView) (limit : ℕ) (a b : List (Row (as_domain p))) (s : Change) → IsStep p program limit a b s → s ≡ Nothing → b ≡ a
 step_same p program limit a b s step e = subst (Moves p limit a b) e step.moves
+
+pub entries_longer : {V : Type 0} (value_of : V → Abs) (p : PlainDomain) (program : ProgramView) (limit : ℕ) (a b : List (Key V × Option V)) (s : Change)
+    → IsStep p program limit (rows_of value_of p a) (rows_of value_of p b) s → length a ≤ length b
+entries_longer value_of p program limit a b s step =
+    let n : length (rows_of value_of p a) ≡ length a = length_map (row_at value_of p) a in
+    let m : length (rows_of value_of p b) ≡ length b = length_map (row_at value_of p) b in
+    let k = all_longer (length (rows_of value_of p a)) (step_longer p program limit (rows_of value_of p a) (rows_of value_of p b) s step) in
+    omega (arith, k)
+  where
+    all_longer : (n : ℕ) → ((k : ℕ) → k < n → k < length (rows_of value_of p b)) → n ≤ length (rows_of value_of p b)
+    all_longer zero h = omega arith
+    all_longer (suc n) h = let k : n < length (rows_of value_of p b) = h n (omega arith) in omega arith
