@@ -7,8 +7,8 @@ use Rattle.plai_rounds.specs.Making.{IsMaking, IsAt, room, ranks}
 use Rattle.plai_rounds.proofs.rounds.grow.Given as goal
 
 -- rounds make the rows, each name keeps its place, and the room stays
-abbrev pub invariant-loop : goal.invariant-loop
-invariant-loop g l =
+abbrev pub invariant-loop-change : goal.invariant-loop-change
+invariant-loop-change g l =
     let p = g.D.Domain.plain l.task.domain.now in
     let old = rows_of g.D.Domain.value_of p l.initial.rows.entries in
     let now = rows_of g.D.Domain.value_of p l.rows.entries in
@@ -19,5 +19,5 @@ invariant-loop g l =
     }
 
 -- the ranks of the answers
-abbrev pub decreases-loop : goal.decreases-loop
-decreases-loop g l = let p = g.D.Domain.plain l.task.domain.now in ranks p (rows_of g.D.Domain.value_of p l.rows.entries)
+abbrev pub decreases-loop-change : goal.decreases-loop-change
+decreases-loop-change g l = let p = g.D.Domain.plain l.task.domain.now in ranks p (rows_of g.D.Domain.value_of p l.rows.entries)
