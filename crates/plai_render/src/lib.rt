@@ -8,7 +8,7 @@ mod order;
 mod stopped;
 
 pub use block::render_table;
-pub use laws::distinct_names_are_apart;
+pub use laws::{distinct_names_are_apart, names_have_different_texts};
 pub use order::sort_rows;
 pub use plai_terms::PlainRow;
 pub use stopped::render_stopped;
