@@ -1,0 +1,16 @@
+//! Loads the modules of several files: reads the files, resolves what each module imports, and makes the program.
+#![tactic(auto)]
+
+mod fail;
+mod import;
+mod items;
+mod keys;
+mod link;
+mod loading;
+mod named_text;
+
+
+pub use fail::LoadFail;
+pub use loading::load;
+pub use named_text::NamedText;
+pub use plai_sources::LoadCause;
