@@ -1,5 +1,5 @@
 -- The two passes over all files.
-use Rattle.std.proofs.Common.{◌≡◌, ℕ, ◌+◌, ◌<◌, ◌≤◌, List, [], ◌∷◌, ◌++◌, map, length, get_or, drop, ap, sym, ◌∙◌, arith, refl}
+use Rattle.std.proofs.Common.{◌≡◌, ℕ, ◌+◌, ◌<◌, ◌≤◌, List, [], ◌∷◌, ◌++◌, map, length, get_or, drop, ap, sym, ◌∙◌, subst, arith, refl}
 use Rattle.std.proofs.lemmas.List.{drop_all, append-nil, append_assoc}
 use Rattle.std.specs.Prelude.{Result, Ok, Err}
 use Rattle.plai_clauses.specs.Program.{ProgramView, empty}
@@ -10,7 +10,9 @@ use Rattle.plai_sources.specs.Items as source
 use Rattle.plai_sources.specs.Answering.{AnswersFile}
 use Rattle.plai_modules.specs.Steps.{and_then}
 use Rattle.plai_modules.specs.Outcomes.{Answers, Leaves, fail_in}
-use Rattle.plai_modules.specs.Loading.{Refusal, in_file, in_front, files_from, linked, linked_from, program_of}
+use Rattle.plai_modules.specs.Loading.{Refusal, in_file, in_front, files_from, linked, linked_from, program_of, loaded}
+use Rattle.plai_modules.specs.declared.fail.LoadFail.{LoadFail}
+use Rattle.plai_modules.specs.declared.fail.LoadFail.TheVariants.{Memory, Refused}
 use Rattle.plai_modules.specs.declared.named_text.NamedText.{NamedText}
 use Rattle.plai_modules.proofs.Stepping.{rest_of}
 
@@ -70,3 +72,14 @@ module _ (files : List NamedText) (i there : ℕ) (read : List FileItems) (all :
 
   pub read_all : length files ≤ i → all ≡ Ok read
   read_all h = held ∙ ap (λ fs. behind read (files_from (i + 1) there (texts_of fs))) (drop_all i files h) ∙ ap Ok (append-nil read)
+
+-- both
+
+pub load_fails : (texts : List (List ℕ)) (fail : LoadFail) → Answers (files_from 1 0 texts) (Err fail) → Answers (loaded texts) (Err fail)
+unfolding loaded
+load_fails texts Memory h = tt
+load_fails texts (Refused file term cause) h = ap (λ r. and_then r program_of) h
+
+pub load_links : (texts : List (List ℕ)) (files : List FileItems) (answer : Result ProgramView LoadFail) → files_from 1 0 texts ≡ Ok files → Answers (program_of files) answer → Answers (loaded texts) answer
+unfolding loaded
+load_links texts files answer e h = subst (λ (r : Result ProgramView Refusal). Answers r answer) (sym (ap (λ r. and_then r program_of) e)) h

@@ -1,9 +1,7 @@
 //! The program with an item more of a module whose imports are known.
-ghost use Rattle.std.specs.Prelude.{◌≡◌, IfOk, OnOk, All};
+ghost use Rattle.std.specs.Prelude.{◌≡◌, IfOk, OnOk};
 ghost use Rattle.plai_terms.specs.Readable.{IsReadable};
 ghost use Rattle.plai_clauses.specs.ClauseOf.{clause_of};
-ghost use Rattle.plai_clauses.specs.Program.{with_entry, with_check};
-ghost use Rattle.plai_clauses.specs.WellFormed.{IsWellFormed};
 ghost use Rattle.plai_sources.specs.WellFormed.{IsWellFormedItem};
 ghost use Rattle.plai_theory.specs.Words.{IsIn};
 ghost use Rattle.plai_sources.specs.declared.items.NumberedItem.{NumberedItem};

@@ -10,10 +10,7 @@ use plai_terms::{Name, Term};
 use std::alloc::{AllocError, Global};
 
 /// Equal keys.
-pub(crate) fn copy_keys(
-    alloc: Global,
-    keys: &[(Name, u32)],
-) -> Result<Vec<(Name, u32)>, AllocError>
+pub(crate) fn copy_keys(alloc: Global, keys: &[(Name, u32)]) -> Result<Vec<(Name, u32)>, AllocError>
     ensures { IfOk result (λ copies. copies.items ≡ keys.now) }
 {
     let mut copies = Vec::new(alloc);

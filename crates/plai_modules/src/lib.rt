@@ -9,7 +9,6 @@ mod link;
 mod loading;
 mod named_text;
 
-
 pub use fail::LoadFail;
 pub use loading::load;
 pub use named_text::NamedText;

@@ -1,5 +1,6 @@
 //! The second pass over all files.
-ghost use Rattle.std.specs.Prelude.{◌≡◌, ◌<◌, ◌^◌, All, IfOk, OnOk, length};
+ghost use Rattle.std.specs.Prelude.{◌≡◌, ◌<◌, ◌^◌, All, IfOk, OnOk, None, length};
+ghost use Rattle.plai_clauses.specs.Program.{module_in};
 ghost use Rattle.plai_clauses.specs.WellFormed.{IsWellFormed};
 ghost use Rattle.plai_sources.specs.WellFormed.{AreWellFormedItems};
 ghost use Rattle.plai_modules.specs.Loading.{with_file, linked, program_of};
@@ -9,7 +10,7 @@ use crate::fail::{LoadFail, fail_in};
 use crate::import::imports_of;
 use crate::items::add_items;
 use crate::keys::copy_keys;
-use plai_clauses::{Imports, Module, Program};
+use plai_clauses::{Imports, Module, Program, change_laws, clause_law};
 use plai_sources::{FileItems, ItemsFail, LoadCause};
 use plai_terms::Listed;
 use std::alloc::{AllocError, Global};
@@ -21,6 +22,8 @@ fn add_file(
     imports: Imports,
     program: &mut Program,
 ) -> Result<(), AllocError>
+    requires new { module_in program.old.modules file.now.«module» ≡ None }
+    requires items { AreWellFormedItems file.now }
     ensures { OnOk result (program.new ≡ with_file program.old file.now imports) }
 {
     let module = Module {
@@ -63,8 +66,11 @@ fn link_file(
 pub(crate) fn program_of(alloc: Global, files: &[FileItems]) -> Result<Program, LoadFail>
     requires few { length files.now < 2 ^ 32 }
     requires items { All AreWellFormedItems files.now }
-    ensures { Answers (program_of files.now) result }
+    ensures answer { Answers (program_of files.now) result }
+    ensures well_formed { IfOk result IsWellFormed }
 {
+    change_laws();
+    clause_law();
     let mut program = Program::new(alloc);
     for (i, file) in files.iter().enumerate() {
         if let Err(fail) = link_file(alloc, files, file, &mut program) {

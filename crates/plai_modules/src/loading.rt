@@ -19,6 +19,7 @@ fn read_files(alloc: Global, files: &[NamedText]) -> Result<Listed<FileItems>, L
     requires short { All (λ file. length file.text < 2 ^ 31) files.now }
     ensures answer { Answers (files_from 1 0 (map (λ file. file.text) files.now)) result }
     ensures well_formed { IfOk result (λ read. All AreWellFormedItems read) }
+    ensures len { IfOk result (λ read. length read ≡ length files.now) }
 {
     let mut read = Vec::new(alloc);
     let mut there: u64 = 0;
@@ -45,7 +46,7 @@ pub fn load(alloc: Global, files: &[NamedText]) -> Result<Program, LoadFail>
     requires few { length files.now < 2 ^ 32 }
     requires short { All (λ file. length file.text < 2 ^ 31) files.now }
     ensures answer { Answers (loaded (map (λ file. file.text) files.now)) result }
-    ensures well_formed { IfOk result (λ program. IsWellFormed program) }
+    ensures well_formed { IfOk result IsWellFormed }
 {
     let read = read_files(alloc, files)?;
     program_of(alloc, read.as_slice())
