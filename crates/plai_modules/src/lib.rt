@@ -8,6 +8,8 @@ mod keys;
 mod link;
 mod loading;
 mod named_text;
+#[cfg(test)]
+mod tests;
 
 pub use fail::LoadFail;
 pub use loading::load;
