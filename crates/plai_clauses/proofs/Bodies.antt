@@ -1,5 +1,5 @@
 -- The goals of a body, the literals that are put behind others, and the bounds on a clause's parts.
-use Rattle.std.proofs.Common.{◌≡◌, ◌∙◌, ℕ, ◌+◌, ◌<◌, ◌≤◌, ℤ, Bool, true, false, ◌||◌, cond, max, fold, map, zero, suc, Option, Some, None, Result, Ok, Err, List, [], ◌∷◌, ◌++◌, length, take, drop, get_or, append-nil, append_assoc, add-one, drop-cons, refl, sym, ap, subst, arith, rules, if◌then◌else◌, codes}
+use Rattle.std.proofs.Common.{◌≡◌, ◌∙◌, ℕ, ◌+◌, ◌<◌, ◌≤◌, ℤ, Bool, true, false, ◌||◌, cond, max, fold, map, zero, suc, Some, None, Result, Ok, Err, List, [], ◌∷◌, ◌++◌, length, take, drop, get_or, append-nil, append_assoc, drop-cons, refl, sym, ap, subst, arith, rules, if◌then◌else◌}
 use Rattle.std.proofs.lemmas.List.{length-map, take_more, take_all, take-append-drop}
 use Rattle.std.proofs.lemmas.Grind.{flat_map-append}
 use Rattle.std.proofs.lemmas.Bool.{ltb-false}
@@ -10,16 +10,15 @@ use Rattle.plai_theory.proofs.Options.{by_test}
 use Rattle.plai_terms.proofs.Terms.{induction}
 use Rattle.plai_terms.specs.declared.term.Term.{Term, Var, Int, Atom, Compound, out-Term, the_lemmas}
 use Rattle.plai_terms.specs.declared.term.Term.TheOpen.{Term-F}
-use Rattle.plai_clauses.specs.declared.clause.Clause.{Clause}
 use Rattle.plai_clauses.specs.declared.clause.Literal.{Literal}
 use Rattle.plai_clauses.specs.declared.cause.ClauseCause.{ClauseCause}
 use Rattle.plai_clauses.specs.declared.cause.ClauseCause.TheVariants.{Unsupported, ArityTooLarge}
 use Rattle.plai_clauses.specs.declared.cause.ClauseFail.{ClauseFail}
 use Rattle.plai_clauses.specs.declared.cause.ClauseFail.TheVariants.{Memory, Refused}
 use Rattle.plai_terms.specs.Readable.{is_wide}
-use Rattle.plai_clauses.specs.Builtins.{is_refused_key, is_builtin_key}
+use Rattle.plai_clauses.specs.Builtins.{is_refused_key}
 use Rattle.plai_clauses.specs.Bodies.{behind, Puts}
-use Rattle.plai_clauses.specs.ClauseOf.{is_conjunction, with_goals, goals_step, goals_of, cause_of_key, unless, target_of, literal_at, literal_in, literal_of, in_front, body_of, two, two_arguments, widest}
+use Rattle.plai_clauses.specs.ClauseOf.{is_conjunction, with_goals, goals_step, goals_of, cause_of_key, unless, target_of, literal_in, literal_of, in_front, body_of, two, two_arguments, widest}
 
 -- the goals of a term
 

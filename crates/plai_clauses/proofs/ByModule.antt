@@ -1,19 +1,18 @@
 -- Entries and checks stay in the order of their modules' names.
-use Rattle.std.proofs.Common.{◌≡◌, ◌∙◌, ℕ, ◌+◌, ◌<◌, ◌≤◌, zero, suc, Bool, true, false, Less, Equal, Greater, Ordering, List, [], ◌∷◌, ◌++◌, take, drop, length, map, refl, sym, ap, subst, arith, if◌then◌else◌}
+use Rattle.std.proofs.Common.{◌≡◌, ◌∙◌, ℕ, ◌≤◌, zero, suc, true, false, Less, Equal, Greater, Ordering, List, [], ◌∷◌, length, map, refl, sym, ap, subst, arith}
 use Rattle.std.proofs.lemmas.Bool.Decides.{nat_tests}
 use Rattle.std.proofs.lemmas.Cmp.{nat_list_cmp_total, upto}
 use Rattle.std.proofs.lemmas.List.Elements.{All-nil, All-cons, All-head, All-tail, All-weaker}
 use Rattle.std.proofs.lemmas.List.Kept.{AllPairs-cons}
 use Rattle.std.proofs.lemmas.List.Quantifiers.{all_pairs_remove}
-use Rattle.std.specs.Prelude.{All, AllPairs, nat_lt, nat_le, nat_eq}
+use Rattle.std.specs.Prelude.{All, AllPairs, nat_lt}
 use Rattle.std.specs.List.{insert, remove}
 use Rattle.std.specs.Ordering.{nat_cmp, is_lt, is_le, is_gt, ordering_reverse}
-use Rattle.std.specs.Cmp.Lexicographic.{slice_cmp, pointwise}
+use Rattle.std.specs.Cmp.Lexicographic.{slice_cmp}
 use Rattle.plai_theory.proofs.Options.{by_test}
-use Rattle.plai_clauses.specs.declared.clause.Clause.{Clause}
 use Rattle.plai_clauses.specs.declared.entry.Entry.{Entry}
 use Rattle.plai_clauses.specs.declared.check.Check.{Check}
-use Rattle.plai_clauses.specs.Program.{ProgramView, place_behind, place_of, empty, with_entry, with_check, without_entry, without_check}
+use Rattle.plai_clauses.specs.Program.{ProgramView, place_behind, empty, with_entry, with_check, without_entry, without_check}
 use Rattle.plai_clauses.specs.ByModule.{IsUpTo, AreByModule}
 
 -- the order of names

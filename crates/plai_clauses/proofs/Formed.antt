@@ -1,5 +1,5 @@
 -- A clause that a term says is well formed: its terms are parts of the term, and its bounds were tested.
-use Rattle.std.proofs.Common.{◌≡◌, ◌∙◌, ℕ, ◌+◌, ◌<◌, ◌≤◌, Bool, true, false, ◌&&◌, ◌||◌, max, fold, map, Option, Some, None, Result, Ok, Err, List, [], ◌∷◌, ◌++◌, length, refl, sym, ap, subst, inl, inr, arith, rules, if◌then◌else◌, codes}
+use Rattle.std.proofs.Common.{◌≡◌, ◌∙◌, ℕ, ◌+◌, ◌≤◌, Bool, true, false, ◌&&◌, ◌||◌, max, fold, map, Option, Some, None, Result, Ok, Err, List, [], ◌∷◌, ◌++◌, length, refl, sym, ap, subst, inl, inr, arith, rules, if◌then◌else◌, codes}
 use Rattle.std.proofs.lemmas.Bool.{ltb-false, and_parts, and_from}
 use Rattle.std.specs.Prelude.{flat_map, nat_lt, nat_eq, IfOk}
 use Rattle.std.specs.List.{list_all, AllByRecursion}
@@ -13,12 +13,10 @@ use Rattle.plai_terms.specs.declared.term.Term.{Term, Var, Int, Atom, Compound, 
 use Rattle.plai_domain.specs.Instances.{all_below}
 use Rattle.plai_clauses.specs.declared.clause.Clause.{Clause}
 use Rattle.plai_clauses.specs.declared.clause.Literal.{Literal}
-use Rattle.plai_clauses.specs.declared.clause.Target.{Target}
 use Rattle.plai_clauses.specs.declared.clause.Target.TheVariants.{Pred, Builtin}
 use Rattle.plai_clauses.specs.declared.cause.ClauseCause.{ClauseCause}
 use Rattle.plai_clauses.specs.declared.cause.ClauseCause.TheVariants.{NotAClause, Unsupported, TooManySlots}
 use Rattle.plai_clauses.specs.declared.cause.ClauseFail.{ClauseFail}
-use Rattle.plai_clauses.specs.declared.cause.ClauseFail.TheVariants.{Memory, Refused}
 use Rattle.plai_terms.specs.Readable.{IsReadable}
 use Rattle.plai_clauses.specs.Builtins.{is_builtin_key, is_refused_key}
 use Rattle.plai_clauses.specs.ClauseOf.{is_conjunction, goals_of, spoken_of, target_of, head_at, head_of, literal_at, literal_of, body_of, two, two_arguments, widest, within_slots, clause_with, clause_from, clause_in, clause_of, Answers}

@@ -1,11 +1,16 @@
+pub mod AtomTexts
 pub mod GroupOrder
 pub mod Joined
 pub mod PatternTexts
+pub mod Reading
 pub mod RowOrders
 pub mod Same
+pub mod SameNames
+pub mod SameTerms
 pub mod Shapes
 pub mod Skeletons
 pub mod Sorted
 pub mod Substs
 pub mod Tables
+pub mod TermTexts
 pub mod Terms

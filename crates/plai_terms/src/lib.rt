@@ -26,7 +26,7 @@ mod term;
 
 pub use abs::Abs;
 pub use atom::{print_atom, print_name, print_quoted};
-pub use laws::{rows_are_ordered, texts_differ};
+pub use laws::{equality_is_exact, rows_are_ordered, term_texts_differ, texts_differ};
 pub use listed::Listed;
 pub use name::Name;
 pub use non_empty::NonEmpty;

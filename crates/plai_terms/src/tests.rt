@@ -3,7 +3,8 @@ ghost use Rattle.plai_terms.specs.Pattern.{arity_of};
 
 use crate::{
     Abs, Args, Listed, Name, NonEmpty, PredKey, Prop, ReadTerm, RowName, Skeleton, Subst, Term,
-    print_abs, print_atom, print_name, print_quoted, print_term, rows_are_ordered, texts_differ,
+    equality_is_exact, print_abs, print_atom, print_name, print_quoted, print_term,
+    rows_are_ordered, term_texts_differ, texts_differ,
 };
 use plai_base::Mask;
 use std::alloc::{AllocError, Global};
@@ -204,7 +205,9 @@ fn key(alloc: Global, predicate: &[u8], arity: u32) -> Result<PredKey, AllocErro
 #[test]
 fn names_copy_and_compare(rt: HostRuntime) -> Result<(), Fail> {
     let alloc = rt.alloc();
+    equality_is_exact();
     rows_are_ordered();
+    term_texts_differ();
     texts_differ();
     let row = RowName {
         pred: key(alloc, b"p", 1)?,
