@@ -5,6 +5,7 @@ mod fail;
 mod import;
 mod items;
 mod keys;
+mod laws;
 mod link;
 mod loading;
 mod named_text;
@@ -12,6 +13,7 @@ mod named_text;
 mod tests;
 
 pub use fail::LoadFail;
+pub use laws::clauses_are_kept;
 pub use loading::load;
 pub use named_text::NamedText;
 pub use plai_sources::LoadCause;
