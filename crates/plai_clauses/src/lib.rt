@@ -20,7 +20,7 @@ pub use cause::{ClauseCause, ClauseFail};
 pub use check::{Check, CheckKind};
 pub use clause::{Clause, Literal, Target};
 pub use entry::Entry;
-pub use imports::Imports;
+pub use imports::{Imports, exporter, spoken_of};
 pub use keys::{is_builtin, is_definable, is_refused_key};
 pub use laws::{change_laws, clause_law, one_module_laws, order_laws};
 pub use modules::Module;

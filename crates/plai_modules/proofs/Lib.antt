@@ -1,0 +1,4 @@
+pub mod Stepping
+pub mod Passes
+pub mod Formed
+pub mod Targets
