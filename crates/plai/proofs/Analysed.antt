@@ -15,7 +15,8 @@ use Rattle.plai_clauses.specs.Program.{ProgramView}
 use Rattle.plai_eval.specs.LeastTable.{IsLeastTable}
 use Rattle.plai_eval.specs.Meaning.{Calling, Acting, as_domain, as_limits, as_program}
 use Rattle.plai_eval.specs.Stops.{IsOver}
-use Rattle.plai.specs.Outcome.{Outcome, done, stopped_at, NeedsMoreRows, IsAnalysed, table, stopped}
+use Rattle.plai_rounds.specs.Causes.{AreTooMany}
+use Rattle.plai.specs.Outcome.{Outcome, done, stopped_at, IsAnalysed, table, stopped}
 use Rattle.plai.specs.Outputs.{outcome_of}
 use Rattle.plai.specs.declared.output.Output.{Output}
 use Rattle.plai.specs.declared.stop.Stop.{Stop}
@@ -26,7 +27,7 @@ table_analysed program limit rows seen (Err stop) least within same made = tt
 table_analysed program limit rows seen (Ok output) least within same made =
     subst (IsAnalysed program limit) (sym (made ∙ ap done same)) (table rows least within)
 
-pub stop_analysed : (program : ProgramView) (limit : ℕ) (result : Result Output Stop) → NeedsMoreRows program limit
+pub stop_analysed : (program : ProgramView) (limit : ℕ) (result : Result Output Stop) → AreTooMany groundness program limit
     → IfOk result (λ output. outcome_of output ≡ stopped_at limit) → IfOk result (λ output. IsAnalysed program limit (outcome_of output))
 stop_analysed program limit (Err stop) more made = tt
 stop_analysed program limit (Ok output) more made = subst (IsAnalysed program limit) (sym made) (stopped more)

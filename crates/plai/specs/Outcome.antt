@@ -2,16 +2,16 @@
 -- fails and there is memory. The words come first, then the number of files, the files, their loading, the script, and
 -- the analysis. Its output is the least table of the loaded program under groundness (Muthukumar and Hermenegildo 1992),
 -- or the line of the limit that it met.
-use Rattle.std.specs.Prelude.{ℕ, ◌+◌, ◌≡◌, ◌≢◌, ◌⊎◌, ◌<◌, ◌≤◌, List, [], true, false, None, Some, length}
+use Rattle.std.specs.Prelude.{ℕ, ◌≡◌, ◌≢◌, ◌⊎◌, ◌<◌, ◌≤◌, List, [], true, false, None, Some, length}
 use Rattle.plai_base.specs.Texts.{TextMap}
 use Rattle.plai_terms.specs.declared.plain_row.PlainRow.{PlainRow}
 use Rattle.plai_assignments.specs.Groundness.{groundness}
 use Rattle.plai_clauses.specs.Program.{ProgramView}
 use Rattle.plai_eval.specs.LeastTable.{IsLeastTable}
-use Rattle.plai_eval.specs.Stops.{HaveBelow}
 use Rattle.plai_modules.specs.Loading.{Refusal}
 use Rattle.plai_render.specs.Block.{block_text}
 use Rattle.plai_render.specs.Stopped.{stopped_text}
+use Rattle.plai_rounds.specs.Causes.{AreTooMany}
 use Rattle.plai_words.specs.Command.{settings_of}
 use Rattle.plai_words.specs.declared.types.Settings.{Settings}
 use Rattle.plai.specs.Commands.{most_files, is_built_command, IsCommand}
@@ -61,14 +61,10 @@ pub record IsReady (words : List (List ℕ)) (files : TextMap) (script : List �
   pub built : is_built_program program ≡ true
   pub empty : script ≡ []
 
--- more names than the limit lie at or below those of the least table, each of the same predicate
-abbrev pub NeedsMoreRows : ProgramView → ℕ → Type 0
-NeedsMoreRows program limit = (rows : List PlainRow) → IsLeastTable groundness program rows → HaveBelow groundness rows (limit + 1)
-
 -- the outcomes of an analysis with a limit of rows: the least table, where it keeps the limit, or a stop by its cause
 pub data IsAnalysed (program : ProgramView) (limit : ℕ) : Outcome → Type 0 where
   table : (rows : List PlainRow) → IsLeastTable groundness program rows → length rows ≤ limit → IsAnalysed program limit (done rows)
-  stopped : NeedsMoreRows program limit → IsAnalysed program limit (stopped_at limit)
+  stopped : AreTooMany groundness program limit → IsAnalysed program limit (stopped_at limit)
 
 -- the outcomes of a call
 pub data IsOutcome (words : List (List ℕ)) (files : TextMap) (script : List ℕ) : Outcome → Type 0 where
