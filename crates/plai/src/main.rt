@@ -1,25 +1,14 @@
-//! An incremental abstract interpreter for Prolog (Muthukumar and Hermenegildo 1992).
+//! An incremental abstract interpreter for Prolog (Muthukumar and Hermenegildo 1992): the program, over the system's files
+//! and streams.
 #![tactic(auto)]
 
 ghost use Rattle.std.specs.Prelude.{◌≡◌, ◌<◌, None, IfOk, map, string_bytes};
 ghost use Rattle.plai_words.specs.Command.{settings_of, texts};
-ghost use Rattle.plai.specs.Ending.{EndsByWords, IsStatus};
+ghost use Rattle.plai_top.specs.Ending.{EndsByWords, IsStatus};
 
-mod analysis;
-mod command;
-mod input;
-mod loading;
-mod output;
-mod refusal;
-mod stop;
-#[cfg(test)]
-mod tests;
-mod top;
-
-use crate::stop::Stop;
-use crate::top::run;
 use plai_base::{FileLibrary, InputSource, OutputSink, Steps};
 use plai_domain::Tally;
+use plai_top::{Stop, run};
 use std::alloc::{AllocError, Global};
 use std::env::Env;
 use std::marker::Brand;
