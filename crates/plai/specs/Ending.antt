@@ -3,7 +3,7 @@ use Rattle.std.specs.Prelude.{ℕ, ◌≡◌, ◌≢◌, ◌⊎◌, List, [], ta
 use Rattle.std.specs.Io.KnownBytes.{Appends, Keeps}
 use Rattle.std.specs.declared.option.Option.{Option}
 use Rattle.plai_base.specs.Texts.{TextMap}
-use Rattle.plai.specs.Outcome.{Outcome, IsEarly, IsOutcome}
+use Rattle.plai.specs.Outcome.{Outcome, IsByWords, IsEarly, IsOutcome, IsBlock}
 
 -- a prefix of the bytes was taken
 abbrev pub TookPrefix : Option (List ℕ) → Option (List ℕ) → List ℕ → Type 0
@@ -31,10 +31,20 @@ abbrev pub IsFaultOrComes : List (List ℕ) → TextMap → List ℕ → ℕ →
 IsFaultOrComes words files script result before after =
     IsFault result ⊎ ((outcome : Outcome) × IsOutcome words files script outcome × Comes result before after outcome)
 
--- however the outcome is, the call ended by it
+-- the outcome is a block, and the call ended by the other block that may come
+abbrev pub EndsByOther : List (List ℕ) → TextMap → List ℕ → ℕ → Option (List ℕ) → Option (List ℕ) → Outcome → Type 0
+EndsByOther words files script result before after outcome =
+    IsBlock outcome × ((other : Outcome) × IsOutcome words files script other × IsBlock other × EndsBy result before after other)
+
+-- however the outcome is, the call ended by it, or, where it is a block, by the other block that may come
 abbrev pub EndsByEach : List (List ℕ) → TextMap → List ℕ → ℕ → Option (List ℕ) → Option (List ℕ) → Type 0
 EndsByEach words files script result before after =
-    (outcome : Outcome) → IsOutcome words files script outcome → EndsBy result before after outcome
+    (outcome : Outcome) → IsOutcome words files script outcome
+    → EndsBy result before after outcome ⊎ EndsByOther words files script result before after outcome
+
+-- what the words decide came, unless memory ran out
+abbrev pub EndsByWords : List (List ℕ) → ℕ → Type 0
+EndsByWords words result = (outcome : Outcome) → IsByWords words outcome → (result ≡ outcome.status) ⊎ (result ≡ 7)
 
 -- what the words and the files decide came, unless the library failed, the sink failed and there was something to
 -- write, or memory ran out
@@ -46,6 +56,10 @@ EndsEarly words files result LibraryFailed = (outcome : Outcome) → IsEarly wor
 abbrev pub IsSilent : ℕ → Type 0
 IsSilent result = (result ≡ 2) ⊎ (result ≡ 4) ⊎ (result ≡ 5) ⊎ (result ≡ 8)
 
+-- a status that is decided before the analysis
+abbrev pub IsBeforeWork : ℕ → Type 0
+IsBeforeWork result = IsSilent result ⊎ (result ≡ 3)
+
 -- the statuses
 abbrev pub IsStatus : ℕ → Type 0
-IsStatus result = (result ≡ 0) ⊎ (result ≡ 2) ⊎ (result ≡ 4) ⊎ IsFault result ⊎ (result ≡ 8)
+IsStatus result = (result ≡ 0) ⊎ (result ≡ 1) ⊎ (result ≡ 2) ⊎ (result ≡ 3) ⊎ (result ≡ 4) ⊎ IsFault result ⊎ (result ≡ 8)

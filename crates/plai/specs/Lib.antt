@@ -1,7 +1,7 @@
+pub mod Commands
 pub mod Ending
-pub mod FactRows
-pub mod Form
+pub mod Files
 pub mod Outcome
+pub mod Refusal
 pub mod Stops
 pub mod Told
-pub mod Words

@@ -2,3 +2,5 @@ pub mod OneModule
 pub mod Bodies
 pub mod Changes
 pub mod Kept
+pub mod Formed
+pub mod ByModule

@@ -22,6 +22,6 @@ pub use clause::{Clause, Literal, Target};
 pub use entry::Entry;
 pub use imports::Imports;
 pub use keys::{is_builtin, is_definable, is_refused_key};
-pub use laws::{change_laws, one_module_laws};
+pub use laws::{change_laws, clause_law, one_module_laws, order_laws};
 pub use modules::Module;
 pub use program::Program;

@@ -6,6 +6,7 @@ ghost use Rattle.plai_domain.specs.Instances.{speaks_within, acts_within};
 ghost use Rattle.plai_domain.specs.Conditions.{most_arguments, IsHead, AreArguments, IsValue, IsState, AreAlike, SpeaksOf};
 ghost use Rattle.plai_domain.specs.Outcomes.{IsOutcome};
 ghost use Rattle.plai_domain.specs.Laws.{IsLawful};
+ghost use Rattle.plai_domain.specs.Printed.{IsPrinted};
 
 use crate::action::Action;
 use crate::dom_fail::DomFail;
@@ -161,4 +162,7 @@ pub trait Domain: Drop {
 
     /// The laws of an abstract domain.
     ghost lawful: { (domain : Self) → IsLawful (plain domain) };
+
+    /// A value's text tells which value it is.
+    ghost printed: { (domain : Self) → IsPrinted (plain domain) };
 }

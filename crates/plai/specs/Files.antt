@@ -1,0 +1,48 @@
+-- The texts of a command's files, and the program that they are loaded to.
+use Rattle.std.specs.Prelude.{◌≡◌, ◌≤◌, ◌<◌, ◌-◌, ℕ, List, [], Bool, true, false, All, Any, Ok, Err, map, not, ◌&&◌, length, unwrap_or, slice_get}
+use Rattle.plai_base.specs.Texts.{TextMap, text_of, longest_text}
+use Rattle.plai_words.specs.declared.types.Settings.{Settings}
+use Rattle.plai_clauses.specs.declared.check.Check.{Check}
+use Rattle.plai_clauses.specs.Program.{ProgramView}
+use Rattle.plai_clauses.specs.Uses.{calls_builtins}
+use Rattle.plai_modules.specs.Loading.{Refusal, loaded}
+use Rattle.plai.specs.Commands.{IsCommand}
+
+-- the texts of these names, in order
+abbrev pub texts_of : TextMap → List (List ℕ) → List (List ℕ)
+texts_of files names = map (text_of files) names
+
+-- no text is too long
+abbrev pub AreShort : List (List ℕ) → Type 0
+AreShort texts = All (λ text. length text ≤ longest_text) texts
+
+-- some text is too long
+abbrev pub IsSomeLong : List (List ℕ) → Type 0
+IsSomeLong texts = Any (λ text. longest_text < length text) texts
+
+-- the name of the file of this number, from 1
+abbrev pub name_at : List (List ℕ) → ℕ → List ℕ
+name_at names number = unwrap_or (slice_get names (number - 1)) []
+
+abbrev pub has_no_checks : List Check → Bool
+has_no_checks [] = true
+has_no_checks _ = false
+
+-- a program that is analysed as yet: without checks and without builtins
+abbrev pub is_built_program : ProgramView → Bool
+is_built_program program = has_no_checks program.checks && not (calls_builtins program)
+
+-- the words form a command, whose files aren't too long
+pub record HasFiles (words : List (List ℕ)) (files : TextMap) (settings : Settings) : Type 0 where
+  pub command : IsCommand words settings
+  pub short : AreShort (texts_of files settings.files)
+
+-- and its files are loaded to this program
+pub record HasProgram (words : List (List ℕ)) (files : TextMap) (settings : Settings) (program : ProgramView) : Type 0 where
+  pub files : HasFiles words files settings
+  pub program : loaded (texts_of files settings.files) ≡ Ok program
+
+-- or they are refused
+pub record HasRefusal (words : List (List ℕ)) (files : TextMap) (settings : Settings) (refusal : Refusal) : Type 0 where
+  pub files : HasFiles words files settings
+  pub refusal : loaded (texts_of files settings.files) ≡ Err refusal

@@ -1,0 +1,336 @@
+-- What terms say is well formed.
+use Rattle.std.proofs.Common.{◌≡◌, ◌∙◌, ℕ, ◌+◌, ◌≤◌, ◌<◌, ◌⊎◌, inl, inr, Bool, true, false, not, ◌&&◌, cond, Option, Some, None, Result, Ok, Err, List, [], ◌∷◌, ◌++◌, length, refl, sym, ap, subst, arith, codes}
+use Rattle.std.specs.Prelude.{All, option_map, option_and_then, ok_or, position, nat_le, nat_lt, nat_eq, IfSome, IsOk}
+use Rattle.std.specs.Cmp.Lexicographic.{pointwise}
+use Rattle.std.proofs.lemmas.Bool.Decides.{nat_tests}
+use Rattle.std.proofs.lemmas.List.Elements.{All-nil}
+use Rattle.std.proofs.lemmas.List.Quantifiers.{position-Some}
+use Rattle.plai_theory.specs.Words.{IsIn}
+use Rattle.plai_terms.specs.declared.term.Term.{Term, out-Term}
+use Rattle.plai_terms.specs.declared.term.Term.TheOpen.{Term-F}
+use Rattle.plai_terms.specs.declared.prop.Prop.{Prop}
+use Rattle.plai_terms.specs.declared.prop.Prop.TheVariants as property
+use Rattle.plai_terms.specs.declared.read_term.ReadTerm.{ReadTerm}
+use Rattle.plai_terms.specs.Readable.{IsReadable}
+use Rattle.plai_domain.specs.Instances.{speaks_within}
+use Rattle.plai_clauses.specs.Builtins.{is_builtin_key, is_refused_key, is_definable}
+use Rattle.plai_clauses.specs.declared.clause.Clause.{Clause}
+use Rattle.plai_clauses.specs.declared.check.CheckKind.{CheckKind}
+use Rattle.plai_clauses.specs.declared.check.CheckKind.TheVariants.{Calls, Success}
+use Rattle.plai_clauses.specs.declared.cause.ClauseCause.{ClauseCause}
+use Rattle.plai_clauses.specs.ClauseOf.{two_arguments, goals_of, clause_of}
+use Rattle.plai_reader.specs.Operators.{Table}
+use Rattle.plai_sources.specs.declared.cause.LoadCause.{LoadCause}
+use Rattle.plai_sources.specs.declared.cause.LoadCause.TheVariants as cause
+use Rattle.plai_sources.specs.declared.properties.Goal.{Goal}
+use Rattle.plai_sources.specs.declared.properties.Call.{Call}
+use Rattle.plai_sources.specs.declared.items.Header.{Header}
+use Rattle.plai_sources.specs.declared.items.Item.{Item}
+use Rattle.plai_sources.specs.declared.items.Item.TheVariants as item
+use Rattle.plai_sources.specs.declared.items.EntryItem.{EntryItem}
+use Rattle.plai_sources.specs.declared.items.CheckItem.{CheckItem}
+use Rattle.plai_sources.specs.declared.items.NumberedItem.{NumberedItem}
+use Rattle.plai_sources.specs.declared.reading.Reading.{Reading}
+use Rattle.plai_sources.specs.Shapes.{variable_of, one_argument, each}
+use Rattle.plai_sources.specs.Keys.{keys_of}
+use Rattle.plai_sources.specs.Properties.{are_distinct, open_goal, goal_at, goal_in, goal_of, place_among, place_of, property_named, apart, property_at, property_in, property_of, properties_of, call, call_with, call_from, call_of, entry, entry_of, check, calls_of, success_with, success_of, check_from, check_of}
+use Rattle.plai_sources.specs.Operators.{operators_of}
+use Rattle.plai_sources.specs.Directives.{Said, other_module, import, import_all, import_some, item_of_one, item_of_two, with_item, with_operators, directive_at, directive_in, clause_from, said_from, said_by, header_of}
+use Rattle.plai_sources.specs.Items.{most_items, is_counted, placed, with_item as with_placed, with_item_if, under, with_said, with_header, with_term_under, with_term}
+use Rattle.plai_sources.specs.WellFormed.{IsEntryItem, IsCheckItem, IsWellFormedItem, AreWellFormedUnder, IsGood}
+use Rattle.plai_sources.proofs.Each.{length-each, All-each}
+
+-- tests and options
+tested : {A : Type 0} (b : Bool) (x y : A) → cond b (Some x) None ≡ Some y → (b ≡ true) × (x ≡ y)
+tested true x y h = (refl, cc)
+tested false x y h = absurd cc
+
+passed : {A : Type 0} (b : Bool) (o : Option A) (y : A) → cond b o None ≡ Some y → (b ≡ true) × (o ≡ Some y)
+passed true o y h = (refl, h)
+passed false o y h = absurd cc
+
+missed : {A : Type 0} (b : Bool) (o : Option A) (y : A) → cond b None o ≡ Some y → o ≡ Some y
+missed true o y h = absurd cc
+missed false o y h = h
+
+mapped : {A B : Type 0} (f : A → B) (o : Option A) (y : B) → option_map f o ≡ Some y → (x : A) × (o ≡ Some x) × (f x ≡ y)
+mapped f None y h = absurd cc
+mapped f (Some x) y h = (x, refl, cc)
+
+chained : {A B : Type 0} (f : A → Option B) (o : Option A) (y : B) → option_and_then f o ≡ Some y → (x : A) × (o ≡ Some x) × (f x ≡ Some y)
+chained f None y h = absurd cc
+chained f (Some x) y h = (x, refl, h)
+
+found : {A : Type 0} (o : Option A) (c : LoadCause) (x : A) → ok_or o c ≡ Ok x → o ≡ Some x
+found None c x h = absurd cc
+found (Some y) c x h = cc
+
+both_true : (p q : Bool) → (p && q) ≡ true → (p ≡ true) × (q ≡ true)
+both_true true q e = (refl, e)
+both_true false q e = absurd cc
+
+definable-few : (name : List ℕ) (arity : ℕ) → is_definable name arity ≡ true → arity ≤ 16
+definable-few name arity h =
+    let (first, few) = both_true (not (is_builtin_key name arity) && not (is_refused_key name arity)) (nat_le arity 16) h in
+    grind (arith, nat_tests)
+
+-- goals
+abbrev IsDefined : Goal → Type 0
+IsDefined g = is_definable g.name (length g.variables) ≡ true
+
+goal_at-defined : (name : List ℕ) (args : List Term) (g : Goal) → goal_at name args ≡ Some g → IsDefined g
+goal_at-defined name args g h =
+    let (definable, rest) = passed (is_definable name (length args)) (option_and_then (open_goal name) (each variable_of args)) g h in
+    let (vs, all, made) = chained (open_goal name) (each variable_of args) g rest in
+    let (distinct, is) = tested (are_distinct vs) (record { name = name; variables = vs }) g made in
+    let n = length-each variable_of args vs all in
+    subst IsDefined is (ap (is_definable name) n ∙ definable)
+
+goal_in-defined : (y : Term-F Term) (g : Goal) → goal_in y ≡ Some g → IsDefined g
+goal_in-defined (Term-F.Var v) g h = absurd cc
+goal_in-defined (Term-F.Int n) g h = absurd cc
+goal_in-defined (Term-F.Atom a) g h = goal_at-defined a [] g h
+goal_in-defined (Term-F.Compound name args) g h = goal_at-defined name args g h
+
+goal_of-defined : (t : Term) (g : Goal) → goal_of t ≡ Some g → IsDefined g
+goal_of-defined t g h = goal_in-defined (out-Term t) g h
+
+-- properties
+abbrev IsPlace : List ℕ → ℕ → Type 0
+IsPlace vs p = (1 ≤ p) × (p ≤ length vs)
+
+place_of-within : (vs : List ℕ) (t : Term) (p : ℕ) → place_of vs t ≡ Some p → IsPlace vs p
+place_of-within vs t p h =
+    let (v, variable, among) = chained (place_among vs) (variable_of t) p h in
+    let (i, at, is) = mapped (λ i. i + 1) (position (λ w. nat_eq w v) vs) p among in
+    let below : i < length vs = (position-Some (λ w. nat_eq w v) vs i 0 at).0 in
+    (omega arith, omega arith)
+
+named-within : (n : ℕ) (name : List ℕ) (place : ℕ) (p : Prop) → (1 ≤ place) × (place ≤ n) → property_named name place ≡ Some p → speaks_within n p
+named-within n name place p h e =
+    first (pointwise nat_eq name (codes "ground")) (pointwise nat_eq name (codes "var")) (pointwise nat_eq name (codes "nonvar")) (pointwise nat_eq name (codes "int")) e
+  where
+    first : (a b c d : Bool) → cond a (Some (property.Ground place)) (cond b (Some (property.Var place)) (cond c (Some (property.Nonvar place)) (cond d (Some (property.Int place)) None))) ≡ Some p → speaks_within n p
+    first true b c d e = let is : property.Ground place ≡ p = cc in subst (speaks_within n) is h
+    first false true c d e = let is : property.Var place ≡ p = cc in subst (speaks_within n) is h
+    first false false true d e = let is : property.Nonvar place ≡ p = cc in subst (speaks_within n) is h
+    first false false false true e = let is : property.Int place ≡ p = cc in subst (speaks_within n) is h
+    first false false false false e = absurd cc
+
+apart-within : (n i j : ℕ) (p : Prop) → (1 ≤ i) × (i ≤ n) → (1 ≤ j) × (j ≤ n) → apart i j ≡ Some p → speaks_within n p
+apart-within n i j p h k e =
+    let is : property.Indep i j ≡ p = let same = missed (nat_eq i j) (Some (property.Indep i j)) p e in cc in
+    subst (speaks_within n) is (h.0, h.1, k.0, k.1)
+
+property_at-within : (vs name : List ℕ) (args : List Term) (p : Prop) → property_at vs name args ≡ Some p → speaks_within (length vs) p
+property_at-within vs name [] p h = absurd cc
+property_at-within vs name (x ∷ []) p h =
+    let (i, place, named) = chained (property_named name) (place_of vs x) p h in
+    named-within (length vs) name i p (place_of-within vs x i place) named
+property_at-within vs name (x ∷ y ∷ []) p h =
+    let (is, rest) = passed (pointwise nat_eq name (codes "indep")) (option_and_then (λ first. option_and_then (apart first) (place_of vs y)) (place_of vs x)) p h in
+    let (i, one, others) = chained (λ first. option_and_then (apart first) (place_of vs y)) (place_of vs x) p rest in
+    let (j, other, both) = chained (apart i) (place_of vs y) p others in
+    apart-within (length vs) i j p (place_of-within vs x i one) (place_of-within vs y j other) both
+property_at-within vs name (x ∷ y ∷ z ∷ args) p h = absurd cc
+
+property_in-within : (vs : List ℕ) (y : Term-F Term) (p : Prop) → property_in vs y ≡ Some p → speaks_within (length vs) p
+property_in-within vs (Term-F.Var v) p h = absurd cc
+property_in-within vs (Term-F.Int n) p h = absurd cc
+property_in-within vs (Term-F.Atom a) p h = absurd cc
+property_in-within vs (Term-F.Compound name args) p h = property_at-within vs name args p h
+
+properties_of-within : (vs : List ℕ) (t : Term) (ps : List Prop) → properties_of vs t ≡ Some ps → All (speaks_within (length vs)) ps
+properties_of-within vs t ps h = All-each (property_of vs) (speaks_within (length vs)) (λ x p e. property_in-within vs (out-Term x) p e) (goals_of t) ps h
+
+-- goals with properties
+pub record IsFormed (c : Call) : Type 0 where
+  pub defined : IsDefined c.goal
+  pub pre : All (speaks_within (length c.goal.variables)) c.pre
+
+call_with-formed : (p : Term × Term) (c : Call) → call_with p ≡ Some c → IsFormed c
+call_with-formed p c h =
+    let (g, goal, rest) = chained (λ goal. option_map (call goal) (properties_of goal.variables p.1)) (goal_of p.0) c h in
+    let (pre, all, is) = mapped (call g) (properties_of g.variables p.1) c rest in
+    subst IsFormed is (record { defined = goal_of-defined p.0 g goal; pre = properties_of-within g.variables p.1 pre all })
+
+call_from-formed : (t : Term) (o : Option (Term × Term)) (c : Call) → call_from t o ≡ Some c → IsFormed c
+call_from-formed t None c h =
+    let (g, goal, is) = mapped (λ g. call g []) (goal_of t) c h in
+    subst IsFormed is (record { defined = goal_of-defined t g goal; pre = All-nil (speaks_within (length g.variables)) })
+call_from-formed t (Some p) c h = call_with-formed p c h
+
+entry_of-formed : (t : Term) (e : EntryItem) → entry_of t ≡ Some e → IsEntryItem e
+entry_of-formed t e h =
+    let (c, made, is) = mapped entry (call_of t) e h in
+    let f = call_from-formed t (two_arguments (codes ":") t) c made in
+    subst IsEntryItem is (record { definable = f.defined; few = definable-few c.goal.name (length c.goal.variables) f.defined; pre = f.pre })
+
+check-formed : (kind : CheckKind) (c : Call) (post : List Prop) → IsFormed c → All (speaks_within (length c.goal.variables)) post → IsCheckItem (check kind c post)
+check-formed kind c post f all = record { definable = f.defined; few = definable-few c.goal.name (length c.goal.variables) f.defined; pre = f.pre; post = all }
+
+calls_of-formed : (t : Term) (e : CheckItem) → calls_of t ≡ Some e → IsCheckItem e
+calls_of-formed t e h =
+    let (p, two, rest) = chained (λ p. option_map (λ c. check Calls c []) (call_with p)) (two_arguments (codes ":") t) e h in
+    let (c, made, is) = mapped (λ c. check Calls c []) (call_with p) e rest in
+    subst IsCheckItem is (check-formed Calls c [] (call_with-formed p c made) (All-nil (speaks_within (length c.goal.variables))))
+
+success_of-formed : (t : Term) (e : CheckItem) → success_of t ≡ Some e → IsCheckItem e
+success_of-formed t e h =
+    let (p, two, rest) = chained success_with (two_arguments (codes "=>") t) e h in
+    let (c, made, more) = chained (λ c. option_map (check Success c) (properties_of c.goal.variables p.1)) (call_of p.0) e rest in
+    let (post, all, is) = mapped (check Success c) (properties_of c.goal.variables p.1) e more in
+    subst IsCheckItem is (check-formed Success c post (call_from-formed p.0 (two_arguments (codes ":") p.0) c made) (properties_of-within c.goal.variables p.1 post all))
+
+check_from-formed : (calls success : Option Term) (e : CheckItem) → check_from calls success ≡ Some e → IsCheckItem e
+check_from-formed (Some t) success e h = calls_of-formed t e h
+check_from-formed None (Some t) e h = success_of-formed t e h
+check_from-formed None None e h = absurd cc
+
+-- directives
+module _ (own : List ℕ) where
+  import_all-formed : (t : Term) (i : Item) → import_all own t ≡ Some i → IsWellFormedItem own i
+  import_all-formed t i h =
+      let (name, other, is) = mapped (import None) (other_module own t) i h in
+      subst (IsWellFormedItem own) is tt
+
+  import_some-formed : (t keys : Term) (i : Item) → import_some own t keys ≡ Some i → IsWellFormedItem own i
+  import_some-formed t keys i h =
+      let (name, other, rest) = chained (λ name. option_map (λ ks. import (Some ks) name) (keys_of keys)) (other_module own t) i h in
+      let (ks, all, is) = mapped (λ ks. import (Some ks) name) (keys_of keys) i rest in
+      subst (IsWellFormedItem own) is tt
+
+  entry-item : (t : Term) (i : Item) → option_map item.Entry (entry_of t) ≡ Some i → IsWellFormedItem own i
+  entry-item t i h = let (e, made, is) = mapped item.Entry (entry_of t) i h in subst (IsWellFormedItem own) is (entry_of-formed t e made)
+
+  check-item : (t : Term) (i : Item) → option_map item.Check (check_of t) ≡ Some i → IsWellFormedItem own i
+  check-item t i h =
+      let (e, made, is) = mapped item.Check (check_of t) i h in
+      subst (IsWellFormedItem own) is (check_from-formed (one_argument (codes "calls") t) (one_argument (codes "success") t) e made)
+
+  one-formed : (name : List ℕ) (x : Term) (i : Item) → item_of_one own name x ≡ Ok i → IsWellFormedItem own i
+  one-formed name x i h = cases (pointwise nat_eq name (codes "use_module")) (pointwise nat_eq name (codes "entry")) (pointwise nat_eq name (codes "check")) h
+    where
+      cases : (a b c : Bool)
+          → cond a (ok_or (import_all own x) cause.BadDirective) (cond b (ok_or (option_map item.Entry (entry_of x)) cause.BadProperty) (cond c (ok_or (option_map item.Check (check_of x)) cause.BadProperty) (Err cause.BadDirective))) ≡ Ok i
+          → IsWellFormedItem own i
+      cases true b c h = import_all-formed x i (found (import_all own x) cause.BadDirective i h)
+      cases false true c h = entry-item x i (found (option_map item.Entry (entry_of x)) cause.BadProperty i h)
+      cases false false true h = check-item x i (found (option_map item.Check (check_of x)) cause.BadProperty i h)
+      cases false false false h = absurd cc
+
+  two-formed : (name : List ℕ) (x y : Term) (i : Item) → item_of_two own name x y ≡ Ok i → IsWellFormedItem own i
+  two-formed name x y i h = cases (pointwise nat_eq name (codes "use_module")) h
+    where
+      cases : (a : Bool) → cond a (ok_or (import_some own x y) cause.BadDirective) (Err cause.BadDirective) ≡ Ok i → IsWellFormedItem own i
+      cases true h = import_some-formed x y i (found (import_some own x y) cause.BadDirective i h)
+      cases false h = absurd cc
+
+  abbrev Speaks : Said → Type 0
+  Speaks s = IfSome s.item (IsWellFormedItem own)
+
+  with_item-formed : (table : Table) (r : Result Item LoadCause) (s : Said) → ((i : Item) → r ≡ Ok i → IsWellFormedItem own i) → with_item table r ≡ Ok s → Speaks s
+  with_item-formed table (Err c) s f h = absurd cc
+  with_item-formed table (Ok i) s f h =
+      let made : Said = record { operators = table; item = Some i } in
+      let is : made ≡ s = cc in
+      subst Speaks is (f i refl)
+
+  with_operators-formed : (o : Option Table) (s : Said) → with_operators o ≡ Ok s → Speaks s
+  with_operators-formed None s h = absurd cc
+  with_operators-formed (Some table) s h =
+      let made : Said = record { operators = table; item = None } in
+      let is : made ≡ s = cc in
+      subst Speaks is tt
+
+  op-formed : (b : Bool) (o : Option Table) (s : Said) → cond b (with_operators o) (Err cause.BadDirective) ≡ Ok s → Speaks s
+  op-formed true o s h = with_operators-formed o s h
+  op-formed false o s h = absurd cc
+
+  directive_at-formed : (table : Table) (name : List ℕ) (args : List Term) (s : Said) → directive_at own table name args ≡ Ok s → Speaks s
+  directive_at-formed table name [] s h = absurd cc
+  directive_at-formed table name (x ∷ []) s h = with_item-formed table (item_of_one own name x) s (one-formed name x) h
+  directive_at-formed table name (x ∷ y ∷ []) s h = with_item-formed table (item_of_two own name x y) s (two-formed name x y) h
+  directive_at-formed table name (x ∷ y ∷ z ∷ []) s h = op-formed (pointwise nat_eq name (codes "op")) (operators_of table x y z) s h
+  directive_at-formed table name (x ∷ y ∷ z ∷ w ∷ args) s h = absurd cc
+
+  directive_in-formed : (table : Table) (y : Term-F Term) (s : Said) → directive_in own table y ≡ Ok s → Speaks s
+  directive_in-formed table (Term-F.Var v) s h = absurd cc
+  directive_in-formed table (Term-F.Int n) s h = absurd cc
+  directive_in-formed table (Term-F.Atom a) s h = absurd cc
+  directive_in-formed table (Term-F.Compound name args) s h = directive_at-formed table name args s h
+
+  clause-formed : (read : ReadTerm) (r : Result Clause ClauseCause) (i : Item) → IsReadable read → r ≡ clause_of own [] read → clause_from read r ≡ Ok i → IsWellFormedItem own i
+  clause-formed read (Err c) i readable e h = absurd cc
+  clause-formed read (Ok c) i readable e h =
+      let is : item.Clause read ≡ i = cc in
+      subst (IsWellFormedItem own) is (record { readable = readable; says = subst IsOk e refl })
+
+  said_from-formed : (table : Table) (read : ReadTerm) (directive query : Option Term) (s : Said) → IsReadable read → said_from own table read directive query ≡ Ok s → Speaks s
+  said_from-formed table read (Some d) query s readable h = directive_in-formed table (out-Term d) s h
+  said_from-formed table read None (Some q) s readable h = absurd cc
+  said_from-formed table read None None s readable h =
+      with_item-formed table (clause_from read (clause_of own [] read)) s (λ i e. clause-formed read (clause_of own [] read) i readable refl e) h
+
+-- the items so far
+in-push : {A : Type 0} (x y : A) (xs : List A) → IsIn x (xs ++ y ∷ []) → IsIn x xs ⊎ (y ≡ x)
+in-push x y [] (inl e) = inr e
+in-push x y [] (inr h) = absurd h
+in-push x y (z ∷ xs) (inl e) = inl (inl e)
+in-push x y (z ∷ xs) (inr h) = elim (in-push x y xs h) [ inl k ↦ inl (inr k) | inr e ↦ inr e ]
+
+pushed : {A : Type 0} (P : A → Type 0) (xs : List A) (y : A) → ((x : A) → IsIn x xs → P x) → P y → (x : A) → IsIn x (xs ++ y ∷ []) → P x
+pushed P xs y all one x h = elim (in-push x y xs h) [ inl k ↦ all x k | inr e ↦ subst P e one ]
+
+module _ (there : ℕ) where
+  -- one more item
+  placed-good : (r : Reading) (n : ℕ) (i : Item) (count : ℕ) (h : Header) → r.header ≡ Some h → IsWellFormedItem h.module i → IsGood there r
+      → (there ≤ most_items → count ≤ most_items) → IsGood there (placed r n i count)
+  placed-good r n i count h e one good few =
+      let before : (x : NumberedItem) → IsIn x r.items → IsWellFormedItem h.module x.item = subst (λ o. AreWellFormedUnder o r.items) e good.items in
+      let new : NumberedItem = record { term = n; item = i } in
+      record {
+        items = subst (λ o. AreWellFormedUnder o (r.items ++ new ∷ [])) (sym e) (pushed (λ (x : NumberedItem). IsWellFormedItem h.module x.item) r.items new before one);
+        few = few;
+      }
+
+  with_placed-good : (r s : Reading) (n : ℕ) (i : Item) (h : Header) → r.header ≡ Some h → IsWellFormedItem h.module i → IsGood there r → with_placed r n i ≡ Ok s → IsGood there s
+  with_placed-good r s n i h e one good made = counted (is_counted i) (nat_lt r.count most_items) refl made
+    where
+      counted : (b c : Bool) → nat_lt r.count most_items ≡ c → cond b (cond c (Ok (placed r n i (r.count + 1))) (Err cause.TooManyItems)) (Ok (placed r n i r.count)) ≡ Ok s → IsGood there s
+      counted true true t made =
+          let room : r.count < most_items = grind (arith, nat_tests) in
+          let is : placed r n i (r.count + 1) ≡ s = cc in
+          subst (IsGood there) is (placed-good r n i (r.count + 1) h e one good (λ le. omega arith))
+      counted true false t made = absurd cc
+      counted false c t made = let is : placed r n i r.count ≡ s = cc in subst (IsGood there) is (placed-good r n i r.count h e one good good.few)
+
+  item-good : (r s : Reading) (n : ℕ) (o : Option Item) (h : Header) → r.header ≡ Some h → IfSome o (IsWellFormedItem h.module) → IsGood there r → with_item_if r n o ≡ Ok s → IsGood there s
+  item-good r s n None h e one good made = let is : r ≡ s = cc in subst (IsGood there) is good
+  item-good r s n (Some i) h e one good made = with_placed-good r s n i h e one good made
+
+  said-good : (r s : Reading) (n : ℕ) (said : Result Said LoadCause) (h : Header) → r.header ≡ Some h → ((x : Said) → said ≡ Ok x → Speaks h.module x) → IsGood there r → with_said r n said ≡ Ok s → IsGood there s
+  said-good r s n (Err c) h e f good made = absurd cc
+  said-good r s n (Ok x) h e f good made =
+      let good' : IsGood there (under x.operators r) = record { items = good.items; few = good.few } in
+      item-good (under x.operators r) s n x.item h e (f x refl) good' made
+
+  header-good : (r s : Reading) (header : Result Header LoadCause) → r.header ≡ None → IsGood there r → with_header r header ≡ Ok s → IsGood there s
+  header-good r s (Err c) e good made = absurd cc
+  header-good r s (Ok h) e good made =
+      let new : Reading = record { operators = r.operators; header = Some h; items = r.items; count = r.count } in
+      let is : new ≡ s = cc in
+      let empty : r.items ≡ [] = subst (λ o. AreWellFormedUnder o r.items) e good.items in
+      let none : (x : NumberedItem) → IsIn x r.items → IsWellFormedItem h.module x.item =
+      subst (λ (l : List NumberedItem). (x : NumberedItem) → IsIn x l → IsWellFormedItem h.module x.item) (sym empty) (λ x k. absurd k) in
+      subst (IsGood there) is (record { items = none; few = good.few })
+
+  term_under-good : (o : Option Header) (r s : Reading) (n : ℕ) (read : ReadTerm) → r.header ≡ o → IsReadable read → IsGood there r → with_term_under o r n read ≡ Ok s → IsGood there s
+  term_under-good None r s n read e readable good made = header-good r s (ok_or (header_of read.term) cause.NoModule) e good made
+  term_under-good (Some h) r s n read e readable good made =
+      said-good r s n (said_by h.module r.operators read) h e
+      (λ x k. said_from-formed h.module r.operators read (one_argument (codes ":-") read.term) (one_argument (codes "?-") read.term) x readable k) good made
+
+  -- one more term
+  pub term-good : (r s : Reading) (n : ℕ) (read : ReadTerm) → IsReadable read → IsGood there r → with_term r n read ≡ Ok s → IsGood there s
+  term-good r s n read readable good made = term_under-good r.header r s n read refl readable good made

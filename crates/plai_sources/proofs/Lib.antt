@@ -1,0 +1,7 @@
+pub mod Each
+pub mod ListTerms
+pub mod Joined
+pub mod OperatorLists
+pub mod Splits
+pub mod Formed
+pub mod Terms

@@ -1,0 +1,8 @@
+use Rattle.std.proofs.Common.{◌≡◌, take, Some, Bor}
+use Rattle.plai_terms.specs.declared.term.Term.{Term}
+use Rattle.plai_sources.specs.Shapes.{each}
+use Rattle.plai_sources.specs.Keys.{key_of}
+use Rattle.plai_sources.proofs.keys.each_key.Given as goal
+
+abbrev pub invariant-loop-item : goal.invariant-loop-item
+invariant-loop-item l = each (λ (t : Bor Term). key_of t.now) (take l.item-index l.items) ≡ Some l.keys.items
