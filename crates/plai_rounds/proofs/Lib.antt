@@ -10,3 +10,4 @@ pub mod Causes
 pub mod Ends
 pub mod Working
 pub mod Sweeping
+pub mod Reaching

@@ -7,6 +7,7 @@ mod analyse_fail;
 mod change;
 mod evaluation;
 mod present;
+mod reach;
 mod rounds;
 mod rows;
 mod task;
