@@ -11,3 +11,5 @@ pub mod Ends
 pub mod Working
 pub mod Sweeping
 pub mod Reaching
+pub mod Narrow
+pub mod LeastRows

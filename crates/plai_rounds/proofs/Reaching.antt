@@ -33,7 +33,8 @@ use Rattle.plai_rounds.specs.Reaching.{IsReaching, IsDone, IsReachStep, HasCalls
 use Rattle.plai_rounds.specs.Causes.{AreTooMany, HasCause}
 use Rattle.plai_rounds.proofs.Lists.{map_push, length_push, length_map, place_of, get_in, get_map, get_some, get_within}
 use Rattle.plai_rounds.proofs.Working.{entry_at}
-use Rattle.plai_rounds.proofs.Making.{names_same, adds_keeps, adds_making}
+use Rattle.plai_rounds.proofs.Sweeping.{below_next}
+use Rattle.plai_rounds.proofs.Making.{names_same, names_distinct, adds_keeps, adds_making}
 use Rattle.plai_rounds.proofs.Ends.{reached_in}
 use Rattle.plai_rounds.proofs.Causes.{too_many, made_near, adding_cause}
 
@@ -191,3 +192,59 @@ name_at_place {V = V} value_of entries index key e =
 
 pub same_place : (names : List (Name PredKey Abs)) (k : ℕ) (x y : Name PredKey Abs) → slice_get names k ≡ Some x → slice_get names k ≡ Some y → x ≡ y
 same_place names k x y e f = let g : Some x ≡ Some y = sym e ∙ f in cc
+
+module _ (p : PlainDomain) (program : ProgramView) (limit : ℕ) (rows : List (Row (as_domain p))) (old mid new : List (Name PredKey Abs))
+    (first : IsReachStep p program limit rows old mid) (second : IsReachStep p program limit rows mid new) where
+  -- one more clause of a name
+  pub called_more : (clauses : List Clause) (index i : ℕ) (clause : Clause) → slice_get clauses i ≡ Some clause
+      → ((k : ℕ) (c : Clause) → k < i → slice_get clauses k ≡ Some c → (x : Name PredKey Abs) → slice_get old index ≡ Some x → HasCalls p rows mid x c)
+      → ((x : Name PredKey Abs) → slice_get mid index ≡ Some x → HasCalls p rows new x clause)
+      → (k : ℕ) (c : Clause) → k < i + 1 → slice_get clauses k ≡ Some c → (x : Name PredKey Abs) → slice_get old index ≡ Some x → HasCalls p rows new x c
+  called_more clauses index i clause is so_far here k c h e x at =
+      below_next (λ k. slice_get clauses k ≡ Some c → HasCalls p rows new x c) i k h
+      (λ low f y j. step_in p program limit rows mid new second y (so_far k c low f x at y j))
+      (λ f.
+      let one : Some clause ≡ Some c = sym is ∙ f in
+      let eq : clause ≡ c = cc in
+      subst (HasCalls p rows new x) eq (here x (first.keeps index x at))) e
+
+  -- one more name
+  pub named_more : (i : ℕ) → ((k : ℕ) (x : Name PredKey Abs) → k < i → slice_get mid k ≡ Some x → HasAllCalls p program rows mid x)
+      → ((x : Name PredKey Abs) → slice_get mid i ≡ Some x → HasAllCalls p program rows new x) → i < length mid
+      → (k : ℕ) (x : Name PredKey Abs) → k < i + 1 → slice_get new k ≡ Some x → HasAllCalls p program rows new x
+  named_more i so_far here room k x h at =
+      let (y, e) = get_some mid k (omega arith) in
+      let same : y ≡ x = same_place new k y x (second.keeps k y e) at in
+      let f : slice_get mid k ≡ Some x = e ∙ ap (λ z. Some z) same in
+      below_next (λ k. slice_get mid k ≡ Some x → HasAllCalls p program rows new x) i k h
+      (λ low g c j y l. step_in p program limit rows mid new second y (so_far k x low g c j y l)) (λ g. here x g) f
+
+pub called_all : (p : PlainDomain) (program : ProgramView) (rows : List (Row (as_domain p))) (old new : List (Name PredKey Abs)) (index : ℕ) (clauses : List Clause) (name x : Name PredKey Abs)
+    → clauses ≡ clauses_of program name.pred → name ≡ x
+    → ((k : ℕ) (c : Clause) → k < length clauses → slice_get clauses k ≡ Some c → (x : Name PredKey Abs) → slice_get old index ≡ Some x → HasCalls p rows new x c)
+    → slice_get old index ≡ Some x → HasAllCalls p program rows new x
+called_all p program rows old new index clauses name x is same calls at c i =
+    let its : clauses ≡ clauses_of program x.pred = is ∙ ap (λ (n : Name PredKey Abs). clauses_of program n.pred) same in
+    let (k, h, e) = place_of clauses c (subst (IsIn c) (sym its) i) in
+    calls k c h e x at
+
+pub named_all : (p : PlainDomain) (program : ProgramView) (rows : List (Row (as_domain p))) (names : List (Name PredKey Abs)) (n : ℕ) → length names ≤ n
+    → ((k : ℕ) (x : Name PredKey Abs) → k < n → slice_get names k ≡ Some x → HasAllCalls p program rows names x) → (x : Name PredKey Abs) → IsIn x names → HasAllCalls p program rows names x
+named_all p program rows names n h calls x i = let (k, w, e) = place_of names x i in calls k x (omega arith) e
+
+-- the entries' names are reached
+pub begun : (p : PlainDomain) (program : ProgramView) (limit : ℕ) (rows : List (Row (as_domain p))) (V : Type 0) (value_of : V → Abs) (entries : List (Key V × Option V))
+    → IsMaking p program limit (rows_of value_of p entries)
+    → ((x : Name PredKey Abs) → IsIn x (as_program p program).entries → IsIn x (names_in value_of entries))
+    → ((x : Name PredKey Abs) → IsIn x (names_in value_of entries) → IsIn x (as_program p program).entries)
+    → IsReaching p program limit rows (names_in value_of entries)
+begun p program limit rows V value_of entries making whole sound =
+    let n : length (names_in value_of entries) ≡ length entries = length_map (λ (r : Key V × Option V). key_name value_of r.0) entries in
+    let m : length (rows_of value_of p entries) ≡ length entries = length_map _ entries in
+    let few : length (rows_of value_of p entries) ≤ limit = making.few in
+    record {
+      reached = λ x i. (zero, AtEntry (sound x i));
+      distinct = subst AreDistinct (names_same value_of p entries) (names_distinct p (rows_of value_of p entries) making.distinct);
+      few = omega arith;
+      entries = whole;
+    }

@@ -6,6 +6,7 @@
 mod analyse_fail;
 mod change;
 mod evaluation;
+mod output;
 mod present;
 mod reach;
 mod rounds;
