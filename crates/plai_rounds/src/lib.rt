@@ -6,7 +6,9 @@
 mod analyse_fail;
 mod change;
 mod evaluation;
+mod output;
 mod present;
+mod reach;
 mod rounds;
 mod rows;
 mod task;
