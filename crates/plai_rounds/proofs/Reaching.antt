@@ -28,7 +28,8 @@ use Rattle.plai_rounds.specs.declared.analyse_fail.AnalyseFail.{AnalyseFail}
 use Rattle.plai_rounds.specs.declared.analyse_fail.AnalyseFail.TheVariants.{Memory, Rows, Groups}
 use Rattle.plai_rounds.specs.Names.{key_name, names_in, rows_of, names_of}
 use Rattle.plai_rounds.specs.Adding.{Adds, Same, Next, AddsAll, IsFull, StopsAdding}
-use Rattle.plai_rounds.specs.Making.{IsMaking, AreQuiet, IsEvaluation}
+use Rattle.plai_rounds.specs.declared.change.Change.TheVariants.{Nothing}
+use Rattle.plai_rounds.specs.Making.{IsMaking, AreQuiet, IsEvaluation, IsSettling}
 use Rattle.plai_rounds.specs.Reaching.{IsReaching, IsDone, IsReachStep, HasCalls, HasAllCalls}
 use Rattle.plai_rounds.specs.Causes.{AreTooMany, HasCause}
 use Rattle.plai_rounds.proofs.Lists.{map_push, length_push, length_map, place_of, get_in, get_map, get_some, get_within}
@@ -247,4 +248,16 @@ begun p program limit rows V value_of entries making whole sound =
       distinct = subst AreDistinct (names_same value_of p entries) (names_distinct p (rows_of value_of p entries) making.distinct);
       few = omega arith;
       entries = whole;
+    }
+
+-- rounds that ended where nothing changes, from the entries' rows on
+pub settled_done : (p : PlainDomain) (program : ProgramView) (limit : ℕ) (V : Type 0) (value_of : V → Abs) (old : List (Key V × Option V)) (rows : List (Row (as_domain p)))
+    → ((x : Name PredKey Abs) → IsIn x (as_program p program).entries → IsIn x (names_in value_of old)) → IsSettling p program limit (rows_of value_of p old) rows Nothing → IsDone p program limit rows
+settled_done p program limit V value_of old rows whole settled =
+    record {
+      making = settled.making;
+      quiet = settled.settles;
+      entries = λ x i.
+          let (k, h, e) = place_of (names_of p (rows_of value_of p old)) x (subst (IsIn x) (sym (names_same value_of p old)) (whole x i)) in
+          get_in (names_of p rows) k x (settled.keeps k x e);
     }
