@@ -1,6 +1,6 @@
 -- Programs of well-formed files are well formed.
-use Rattle.std.proofs.Common.{◌≡◌, ℕ, ◌+◌, ◌<◌, Bool, true, false, zero, suc, List, [], ◌∷◌, length, get_or, inl, inr, refl, subst, sym, arith, ◌⊎◌}
-use Rattle.std.specs.Prelude.{Result, Ok, Err, Some, None, Option, is_some, All, if◌then◌else◌}
+use Rattle.std.proofs.Common.{◌≡◌, ℕ, ◌+◌, ◌<◌, Bool, true, false, zero, suc, List, [], ◌∷◌, length, get_or, inl, inr, refl, subst, arith}
+use Rattle.std.specs.Prelude.{Result, Ok, Err, is_some, All, if◌then◌else◌}
 use Rattle.std.proofs.lemmas.List.Elements.{All-head, All-tail}
 use Rattle.plai_theory.specs.Words.{IsIn}
 use Rattle.plai_terms.specs.declared.read_term.ReadTerm.{ReadTerm}

@@ -2,3 +2,4 @@ pub mod Stepping
 pub mod Passes
 pub mod Formed
 pub mod Targets
+pub mod Imported

@@ -1,8 +1,8 @@
 -- The two passes over all files.
-use Rattle.std.proofs.Common.{◌≡◌, ℕ, ◌+◌, ◌<◌, ◌≤◌, List, [], ◌∷◌, ◌++◌, map, length, get_or, drop, ap, sym, ◌∙◌, subst, arith, refl}
+use Rattle.std.proofs.Common.{◌≡◌, ℕ, ◌+◌, ◌<◌, ◌≤◌, List, [], ◌∷◌, ◌++◌, map, length, get_or, drop, ap, sym, ◌∙◌, subst, refl}
 use Rattle.std.proofs.lemmas.List.{drop_all, append-nil, append_assoc}
 use Rattle.std.specs.Prelude.{Result, Ok, Err}
-use Rattle.plai_clauses.specs.Program.{ProgramView, empty}
+use Rattle.plai_clauses.specs.Program.{ProgramView}
 use Rattle.plai_sources.specs.declared.items.FileItems.{FileItems}
 use Rattle.plai_sources.specs.declared.cause.ItemsFail.{ItemsFail}
 use Rattle.plai_sources.specs.declared.cause.ItemsFail.TheVariants as items_fail

@@ -1,5 +1,5 @@
 -- Imports decide what the literals of a clause call, and nothing else.
-use Rattle.std.proofs.Common.{◌≡◌, ℕ, ◌+◌, Bool, true, false, List, [], ◌∷◌, map, length, max, nat_lt, refl, ap, sym, subst, ◌∙◌, ltb}
+use Rattle.std.proofs.Common.{◌≡◌, ℕ, ◌+◌, Bool, true, false, List, [], ◌∷◌, map, length, max, nat_lt, refl, ap}
 use Rattle.std.specs.Prelude.{Option, Some, None, Result, Ok, Err, IsOk, fold, codes, if◌then◌else◌}
 use Rattle.plai_terms.specs.declared.term.Term.{Term, out-Term}
 use Rattle.plai_terms.specs.declared.term.Term.TheOpen.{Term-F}
@@ -30,15 +30,15 @@ unfolding SameWidth
 unless_same (Some c) a b e = tt
 unless_same None a b e = e
 
-in_front_same : (a b : Result Literal ClauseCause) (as bs : Result (List Literal) ClauseCause) → SameWidth a b → SameWidths as bs → SameWidths (in_front a as) (in_front b bs)
+in_front_same : (a b : Result Literal ClauseCause) (xs ys : Result (List Literal) ClauseCause) → SameWidth a b → SameWidths xs ys → SameWidths (in_front a xs) (in_front b ys)
 unfolding SameWidth SameWidths widths
-in_front_same (Ok a) (Ok b) (Ok as) (Ok bs) p q = cc
+in_front_same (Ok a) (Ok b) (Ok xs) (Ok ys) p q = cc
 in_front_same (Ok a) (Ok b) (Err c) (Err d) p q = tt
-in_front_same (Err c) (Err d) as bs p q = tt
-in_front_same (Ok a) (Err d) as bs p q = absurd p
-in_front_same (Err c) (Ok b) as bs p q = absurd p
-in_front_same (Ok a) (Ok b) (Ok as) (Err d) p q = absurd q
-in_front_same (Ok a) (Ok b) (Err c) (Ok bs) p q = absurd q
+in_front_same (Err c) (Err d) xs ys p q = tt
+in_front_same (Ok a) (Err d) xs ys p q = absurd p
+in_front_same (Err c) (Ok b) xs ys p q = absurd p
+in_front_same (Ok a) (Ok b) (Ok xs) (Err d) p q = absurd q
+in_front_same (Ok a) (Ok b) (Err c) (Ok ys) p q = absurd q
 
 IsFound : Result Clause ClauseCause → Result Clause ClauseCause → Type 0
 IsFound a b = IsOk a → IsOk b
@@ -49,22 +49,22 @@ tested false false c d x y e h = h
 tested true false c d x y e h = cc
 tested false true c d x y e h = cc
 
-within_same : (variables : ℕ) (head : List ℕ × List Term) (as bs : List Literal) → widths as ≡ widths bs → IsFound (within_slots variables head as) (within_slots variables head bs)
+within_same : (variables : ℕ) (head : List ℕ × List Term) (xs ys : List Literal) → widths xs ≡ widths ys → IsFound (within_slots variables head xs) (within_slots variables head ys)
 unfolding IsFound widths
-within_same variables head as bs e =
+within_same variables head xs ys e =
     let slots = λ (n : ℕ). length head.1 + variables + n in
-    let same : widest as ≡ widest bs = ap (fold max 0) e in
-    tested (nat_lt 64 (slots (widest as))) (nat_lt 64 (slots (widest bs))) (TooManySlots (slots (widest as))) (TooManySlots (slots (widest bs)))
-    (record { name = head.0; head = head.1; variables = variables; body = as }) (record { name = head.0; head = head.1; variables = variables; body = bs })
+    let same : widest xs ≡ widest ys = ap (fold max 0) e in
+    tested (nat_lt 64 (slots (widest xs))) (nat_lt 64 (slots (widest ys))) (TooManySlots (slots (widest xs))) (TooManySlots (slots (widest ys)))
+    (record { name = head.0; head = head.1; variables = variables; body = xs }) (record { name = head.0; head = head.1; variables = variables; body = ys })
     (ap (λ n. nat_lt 64 (slots n)) same)
 
-clause_same : (variables : ℕ) (head : Result (List ℕ × List Term) ClauseCause) (as bs : Result (List Literal) ClauseCause) → SameWidths as bs → IsFound (clause_with variables head as) (clause_with variables head bs)
+clause_same : (variables : ℕ) (head : Result (List ℕ × List Term) ClauseCause) (xs ys : Result (List Literal) ClauseCause) → SameWidths xs ys → IsFound (clause_with variables head xs) (clause_with variables head ys)
 unfolding IsFound SameWidths
-clause_same variables (Err c) as bs p = λ h. h
-clause_same variables (Ok head) (Ok as) (Ok bs) p = within_same variables head as bs p
+clause_same variables (Err c) xs ys p = λ h. h
+clause_same variables (Ok head) (Ok xs) (Ok ys) p = within_same variables head xs ys p
 clause_same variables (Ok head) (Err c) (Err d) p = λ h. h
-clause_same variables (Ok head) (Ok as) (Err d) p = absurd p
-clause_same variables (Ok head) (Err c) (Ok bs) p = absurd p
+clause_same variables (Ok head) (Ok xs) (Err d) p = absurd p
+clause_same variables (Ok head) (Err c) (Ok ys) p = absurd p
 
 module _ (m : List ℕ) (imports : List (List ℕ × ℕ × List ℕ)) where
   literal_same : (y : Term-F Term) → SameWidth (literal_in m [] y) (literal_in m imports y)
@@ -87,12 +87,9 @@ module _ (m : List ℕ) (imports : List (List ℕ × ℕ × List ℕ)) where
   from_same variables head goals = clause_same variables (head_of head) (body_of m [] goals) (body_of m imports goals) (body_same goals)
 
   in_same : (read : ReadTerm) (rule grammar : Option (Term × Term)) → IsFound (clause_in m [] read rule grammar) (clause_in m imports read rule grammar)
+  unfolding IsFound
   in_same read (Some rule) grammar = from_same read.variables rule.0 (goals_of rule.1)
-  in_same read None (Some g) = same
-    where
-      same : IsFound (clause_in m [] read None (Some g)) (clause_in m imports read None (Some g))
-      unfolding IsFound
-      same = λ h. h
+  in_same read None (Some g) = λ h. h
   in_same read None None = from_same read.variables read.term []
 
   -- Theorem: whether a term says a clause doesn't depend on what its module imports.

@@ -55,8 +55,7 @@ left_refused : (all left : Tokens) (ts : List Token) (cause : LoadCause) → Are
     → ((split all.tokens).terms ≡ []) × (last_cause all.failure (split all.tokens).rest ≡ Some cause)
 left_refused all left ts cause inside e none some =
     let tokens : all.tokens ≡ ts = ap (λ (t : Tokens). t.tokens) e ∙ ap (λ l. ts ++ l) none ∙ append-nil ts in
-    let failure : all.failure ≡ left.failure = ap (λ (t : Tokens). t.failure) e in
-    (
+    let failure : all.failure ≡ left.failure = ap (λ (t : Tokens). t.failure) e in (
       ap (λ l. (split l).terms) tokens ∙ inside_terms ts inside,
       ap (λ l. last_cause all.failure (split l).rest) tokens ∙ ap (last_cause all.failure) (inside_rest ts inside) ∙ ap (λ f. last_cause f ts) failure ∙ some,
     )

@@ -1,26 +1,23 @@
 -- The settings of the words, by clap's promise on them.
-use Rattle.std.proofs.Common.{◌≡◌, ◌⊎◌, ℕ, List, [], ◌∷◌, ◌++◌, Bool, Option, None, Some, Result, Ok, Err, true, false, refl, ap, sym, ◌∙◌, subst, inl, inr}
-use Rattle.std.specs.Prelude.{option_and_then, IsErrOf, fold, is_some}
+use Rattle.std.proofs.Common.{◌≡◌, List, [], ◌∷◌, Bool, Option, None, Some, true, false, refl, ap, sym, ◌∙◌, subst, inl, inr}
+use Rattle.std.specs.Prelude.{fold, is_some}
 use Rattle.clap.specs.Kinds.{HasKind, IsAmong, Kinds, or_else}
-use Rattle.clap.specs.Faults.{built_fault, check_fault, defaults_fault, entered_fault, fault_of, is_simple_and_free, settle_fault, walk_fault}
+use Rattle.clap.specs.Faults.{check_fault, defaults_fault, entered_fault, fault_of, is_simple_and_free, settle_fault, walk_fault}
 use Rattle.clap.specs.Simple.{App, built, entered, is_simple, matches_of}
-use Rattle.clap.specs.Walk.{Held, Row, Rule, Text, Walk, finished, has_row, idle, settled, walk, with_default, walked, walk_from, nothing_held}
+use Rattle.clap.specs.Walk.{Row, Rule, Text, Walk, finished, has_row, idle, settled, walk, with_default, nothing_held}
 use Rattle.clap.specs.Values.{kind_of}
 use Rattle.clap.specs.declared.error.Error.{Error}
 use Rattle.clap.specs.declared.error.kind.ErrorKind.{ErrorKind}
 use Rattle.clap.specs.declared.error.kind.ErrorKind.TheVariants.{OutOfMemory}
-use Rattle.plai_words.specs.declared.types.Settings.{Settings}
 use Rattle.plai_words.specs.Given.{Given, both, file, given, option_said, said}
-use Rattle.plai_words.specs.Numbers.{number}
-use Rattle.plai_words.specs.Given.{domain_named}
 use Rattle.plai_words.specs.Options.{Key, Domain, Depth, Rows, Make, has_bundle, is_bundle, is_dashed, is_end, is_option, named, attached}
-use Rattle.plai_words.specs.Command.{completed, settings_of}
+use Rattle.plai_words.specs.Command.{settings_of}
 use Rattle.plai_words.specs.Line.{name_of, files_id, line}
-use Rattle.plai_words.specs.Taken.{Taken, given_by, read_once, settings_in, taken_given, taken_in}
+use Rattle.plai_words.specs.Taken.{Taken, settings_in, taken_given}
 use Rattle.plai_words.proofs.Joins.{finish, none_more, nothing_before}
 use Rattle.plai_words.proofs.Rows.{Holds, files_held, first_held, gatherer, holds_none, taker, untaken}
 use Rattle.plai_words.proofs.Shapes.{IsShort, all_rules, short_of_bundle}
-use Rattle.plai_words.proofs.Walks.{Agrees, Reads, end_of, fault_left, or_nil, rows_left, shape, walk_at}
+use Rattle.plai_words.proofs.Walks.{Reads, end_of, fault_left, or_nil, rows_left, shape, walk_at}
 use Rattle.plai_words.proofs.Readings.{reads}
 
 -- ---- what comes after the walk

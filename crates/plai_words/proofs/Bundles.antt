@@ -1,6 +1,5 @@
 -- Words of one dash with more behind it, place by place.
-use Rattle.std.proofs.Common.{◌≡◌, ℕ, ◌<◌, ◌≤◌, ◌+◌, List, [], ◌∷◌, Bool, true, false, refl, sym, ◌∙◌, ap, drop, length, Bor, get_or}
-use Rattle.std.specs.Prelude.{◌||◌, if◌then◌else◌}
+use Rattle.std.proofs.Common.{◌≡◌, ℕ, ◌<◌, ◌≤◌, ◌+◌, List, ◌∷◌, Bool, true, false, refl, ◌∙◌, drop, length, Bor, get_or}
 use Rattle.std.proofs.lemmas.List.{at_drop_more, at_drop_all}
 use Rattle.plai_words.specs.Command.{texts}
 use Rattle.plai_words.specs.Options.{has_bundle, is_bundle, is_end}

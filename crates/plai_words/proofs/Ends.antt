@@ -2,7 +2,7 @@
 use Rattle.std.proofs.Common.{◌≡◌, ◌≢◌, ℕ, List, [], ◌∷◌, Bool, Option, None, Some, Result, Ok, Err, true, false, refl, ap, sym, ◌∙◌, length, rules}
 use Rattle.std.proofs.lemmas.Bool.{false≢true, true≢false}
 use Rattle.std.specs.Bool.{beq}
-use Rattle.std.specs.Prelude.{option_to_list, option_and_then, option_map, unwrap_or, is_some, ◌==◌, not, IfOk, IsErrOf, MatchResult}
+use Rattle.std.specs.Prelude.{option_to_list, option_and_then, unwrap_or, is_some, ◌==◌, not, IfOk, IsErrOf, MatchResult}
 use Rattle.clap.specs.Words.{Row, all_of, first_of}
 use Rattle.plai_words.specs.declared.types.DomainName.{DomainName}
 use Rattle.plai_words.specs.declared.types.DomainName.TheVariants.{Ground}

@@ -1,21 +1,19 @@
 -- Clap's reading of the words and ours agree.
-use Rattle.std.proofs.Common.{◌≡◌, ◌⊎◌, ℕ, List, [], ◌∷◌, ◌++◌, Bool, Option, None, Some, true, false, refl, ap, ap₂, sym, ◌∙◌, subst, inl, inr}
+use Rattle.std.proofs.Common.{◌≡◌, List, [], ◌∷◌, ◌++◌, Option, None, Some, true, false, refl, ap, ap₂, sym, ◌∙◌, subst, inl, inr}
 use Rattle.std.specs.Prelude.{if◌then◌else◌, nat_lt}
 use Rattle.std.specs.Option.{option_map_or}
-use Rattle.std.specs.Str.{bytes_eq}
-use Rattle.clap.specs.Lexer.{long_of, short_of}
 use Rattle.clap.specs.Kinds.{Kinds, or_else}
-use Rattle.clap.specs.Faults.{bundle_fault, flag_word_fault, long_fault, step_fault, turn_fault, use_fault, walk_fault, word_fault}
-use Rattle.clap.specs.Walk.{Held, Row, Rule, Step, Text, Waiting, Walk, after_flag, arg_by_id, arg_by_long, idle, long_met, long_or_other, next, option as waits_for, option_word, pending_count, plain_word, positional, short_or_plain, trailing, used, value, walked, word_met}
-use Rattle.clap.specs.declared.error.kind.ErrorKind.TheVariants.{InvalidValue, UnknownArgument}
-use Rattle.plai_words.specs.Given.{Given, both, said, file, given}
-use Rattle.plai_words.specs.Options.{Key, Domain, Depth, Rows, Make, has_bundle, is_bundle, is_dashed, is_end}
+use Rattle.clap.specs.Faults.{bundle_fault, long_fault, turn_fault, use_fault, walk_fault, word_fault}
+use Rattle.clap.specs.Walk.{Held, Row, Rule, Step, Text, Waiting, Walk, idle, next, option as waits_for, option_word, pending_count, plain_word, positional, short_or_plain, used, value, walked, word_met}
+use Rattle.clap.specs.declared.error.kind.ErrorKind.TheVariants.{UnknownArgument}
+use Rattle.plai_words.specs.Given.{Given, both, said, given}
+use Rattle.plai_words.specs.Options.{Key, Domain, Depth, Rows, Make, has_bundle, is_dashed}
 use Rattle.plai_words.specs.Line.{name_of, files_id}
 use Rattle.plai_words.specs.Taken.{Taken, taken_given}
-use Rattle.plai_words.proofs.Joins.{IsNever, Slot, both_assoc, files, finish, none_more, nothing_more, option}
-use Rattle.plai_words.proofs.Rows.{Holds, id_of, rule_at, taker}
+use Rattle.plai_words.proofs.Joins.{both_assoc, files, finish, none_more, option}
+use Rattle.plai_words.proofs.Rows.{Holds, taker}
 use Rattle.plai_words.proofs.Shapes.{IsPlainWord, IsStray, Word, all_rules, by_id, by_long, dashes, ends, gives, names, option_dashed, plain, short, stray, word_of}
-use Rattle.plai_words.proofs.Walks.{Agrees, Awaits, Open, Pend, Reads, Settles, Waits, at_end, behind_end, clear_after, doomed, fault_at, fault_by, fault_is, file_joins, given_dashed, given_ends, given_gives, given_names, given_plain, given_stray, given_value, go_on, held_at, left_nil, long_value, long_word_by, met_by, met_is, gathers, gather_fault, name_no_end, name_turn, name_walked, no_short, no_value_fault, not_nil, only_files, or_nil, pend_given, pending_as, rows_at, rows_is, settle, settle_option, shape, stop, turn_is, value_is_no_end, value_no_end, waiting_at, walk_at, walked_is, word_fault_is}
+use Rattle.plai_words.proofs.Walks.{Awaits, Open, Pend, Reads, Settles, Waits, at_end, behind_end, clear_after, doomed, fault_at, fault_by, fault_is, file_joins, given_dashed, given_ends, given_gives, given_names, given_plain, given_stray, given_value, go_on, held_at, left_nil, long_value, long_word_by, met_by, met_is, gathers, gather_fault, name_no_end, name_turn, name_walked, no_short, no_value_fault, not_nil, or_nil, pend_given, pending_as, rows_at, rows_is, settle, settle_option, shape, stop, turn_is, value_is_no_end, value_no_end, waiting_at, walk_at, walked_is, word_fault_is}
 
 right_nil : (a b : Kinds) → or_else a b ≡ [] → b ≡ []
 right_nil [] b e = e

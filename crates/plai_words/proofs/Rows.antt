@@ -1,18 +1,17 @@
 -- The rows of clap's matches, by the texts that were taken.
-use Rattle.std.proofs.Common.{◌≡◌, ◌⊎◌, ℕ, List, [], ◌∷◌, ◌++◌, Bool, cond, Option, None, Some, true, false, refl, ap, sym, ◌∙◌, subst, inl, inr}
+use Rattle.std.proofs.Common.{◌≡◌, ◌⊎◌, List, [], ◌∷◌, ◌++◌, Bool, cond, Option, None, Some, true, false, refl, ap, sym, ◌∙◌, subst, inl, inr}
 use Rattle.std.specs.Prelude.{option_map, find, unwrap_or, option_and_then, slice_get, is_some}
 use Rattle.std.specs.Str.{bytes_eq}
 use Rattle.std.proofs.lemmas.Slice.Eq.{bytes_eq-Decides}
-use Rattle.clap.specs.Walk.{Row, Rule, Text, all_of, first_of, has_row, more_values, stronger, used, with_values, without}
+use Rattle.clap.specs.Walk.{Row, Rule, Text, all_of, first_of, has_row, stronger, used, with_values, without}
 use Rattle.clap.specs.Simple.{new_rule}
 use Rattle.clap.specs.declared.builder.action.ArgAction.TheVariants.{Append, Set}
-use Rattle.clap.specs.declared.builder.value_parser.Reading.{Reading}
 use Rattle.clap.specs.declared.builder.value_parser.Reading.TheVariants.{AsWritten}
 use Rattle.clap.specs.declared.builder.value_parser.ValueParser.TheVariants as vp
 use Rattle.clap.specs.declared.parser.matches.ValueSource.TheVariants.{CommandLine}
 use Rattle.plai_words.specs.Options.{Key, Domain, Depth, Rows, Make}
 use Rattle.plai_words.specs.Line.{name_of, files_id}
-use Rattle.plai_words.specs.Taken.{Taken, taken_given, taken_in}
+use Rattle.plai_words.specs.Taken.{Taken}
 use Rattle.plai_words.proofs.Joins.{Slot, option, files, put, add}
 
 -- ---- the rules, filled in

@@ -1,14 +1,14 @@
 -- What clap's lexer and our definitions say of one word.
-use Rattle.std.proofs.Common.{◌≡◌, ◌⊎◌, ℕ, ◌+◌, List, [], ◌∷◌, ◌++◌, Bool, cond, Option, None, Some, true, false, refl, ap, sym, ◌∙◌, subst, inl, inr, length, take, drop, zero, suc, arith}
-use Rattle.std.specs.Prelude.{◌==◌, ◌&&◌, ◌||◌, not, nat_eq, nat_lt, codes}
+use Rattle.std.proofs.Common.{◌≡◌, ◌⊎◌, ℕ, ◌+◌, List, [], ◌∷◌, ◌++◌, Bool, Option, None, Some, true, false, refl, ap, sym, ◌∙◌, subst, inl, inr, length, take, drop, suc, arith}
+use Rattle.std.specs.Prelude.{◌==◌, ◌&&◌, not, nat_eq, nat_lt}
 use Rattle.std.specs.List.{starts_with, before_first, prefix_len}
 use Rattle.std.specs.Str.{bytes_eq}
 use Rattle.std.proofs.lemmas.Slice.Eq.{bytes_eq-Decides}
 use Rattle.std.proofs.lemmas.Bool.{true≢false}
 use borrow.Author.Tests.{eqb-true}
 use Rattle.clap.specs.Lexer.{long_of, name_and_value, short_of}
-use Rattle.clap.specs.Walk.{Rule, Text, arg_by_id, arg_by_index, arg_by_long}
-use Rattle.plai_words.specs.Options.{Key, Domain, Depth, Rows, Make, attached, behind, has_bundle, is_bundle, is_dashed, is_end, is_option, named}
+use Rattle.clap.specs.Walk.{Rule, Text, arg_by_id, arg_by_long}
+use Rattle.plai_words.specs.Options.{Key, Domain, Depth, Rows, Make, attached, behind, is_bundle, is_dashed, is_end, is_option, named}
 use Rattle.plai_words.specs.Line.{name_of}
 use Rattle.plai_words.proofs.Joins.{Slot, option, files}
 use Rattle.plai_words.proofs.Rows.{gatherer, id_of, rule_at, taker}

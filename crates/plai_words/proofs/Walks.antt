@@ -1,24 +1,24 @@
 -- What clap's walk makes of the words.
-use Rattle.std.proofs.Common.{◌≡◌, ◌⊎◌, ℕ, List, [], ◌∷◌, ◌++◌, Bool, Option, None, Some, true, false, refl, ap, ap₂, sym, ◌∙◌, subst, inl, inr}
-use Rattle.std.specs.Prelude.{◌&&◌, ◌||◌, codes, fold, is_some, nat_lt, option_map, if◌then◌else◌}
+use Rattle.std.proofs.Common.{◌≡◌, ◌⊎◌, List, [], ◌∷◌, ◌++◌, Bool, Option, None, Some, true, false, refl, ap, ap₂, sym, ◌∙◌, subst, inl, inr}
+use Rattle.std.specs.Prelude.{◌&&◌, ◌||◌, codes, fold, is_some, option_map, if◌then◌else◌}
 use Rattle.std.specs.Option.{option_map_or}
 use Rattle.std.specs.Str.{bytes_eq}
 use Rattle.std.proofs.lemmas.Bool.{true≢false}
-use Rattle.clap.specs.Lexer.{long_of, short_of}
+use Rattle.clap.specs.Lexer.{long_of}
 use Rattle.clap.specs.Kinds.{Kinds, or_else}
 use Rattle.clap.specs.Faults.{flag_word_fault, long_fault, other_fault, settle_fault, step_fault, turn_fault, use_fault, walk_fault, word_fault}
 use Rattle.clap.specs.Simple.{Shape, new_shape}
-use Rattle.clap.specs.Walk.{Held, Row, Rule, Step, Text, Waiting, Walk, after_flag, after_step, has_row, idle, is_pending, long_met, long_or_other, next, option as waits_for, pending_count, positional, pushed, reacted, settled, settled_rows, subcommand_met, subcommand_or_other, trailing, used, used_by_id, value, walked, word_met, arg_by_id, arg_by_index, arg_by_long, long_word, option_word, short_or_plain, to_positional}
-use Rattle.clap.specs.declared.error.kind.ErrorKind.TheVariants.{ArgumentConflict, InvalidValue, UnknownArgument}
+use Rattle.clap.specs.Walk.{Held, Row, Rule, Step, Text, Waiting, Walk, after_flag, after_step, has_row, idle, is_pending, long_met, long_or_other, next, option as waits_for, positional, pushed, settled, settled_rows, subcommand_met, subcommand_or_other, trailing, used, used_by_id, value, walked, word_met, arg_by_index, to_positional}
+use Rattle.clap.specs.declared.error.kind.ErrorKind.TheVariants.{ArgumentConflict, InvalidValue}
 use Rattle.plai_words.specs.Given.{Given, nothing, both, said, file, given}
 use Rattle.plai_words.specs.Options.{Key, Domain, Depth, Rows, Make, attached, behind, has_bundle, is_bundle, is_dashed, is_end, is_option, named}
 use Rattle.plai_words.specs.Numbers.{number, is_short_numeral}
 use Rattle.plai_words.specs.Given.{domain_named}
 use Rattle.plai_words.specs.Line.{name_of, files_id}
 use Rattle.plai_words.specs.Taken.{Taken, taken_given}
-use Rattle.plai_words.proofs.Joins.{IsNever, Slot, add, added_file, added_option, both_assoc, files, finish, none_more, nothing_more, option, slot_said, twice}
-use Rattle.plai_words.proofs.Rows.{Holds, find_row, gatherer, has_row_is, holds_file, holds_option, id_of, rule_at, taker}
-use Rattle.plai_words.proofs.Shapes.{IsPlainWord, IsStray, Word, all_rules, by_id, by_long, dashed_option, dashes, ends, gives, names, option_dashed, plain, short, stray, word_of}
+use Rattle.plai_words.proofs.Joins.{IsNever, Slot, add, added_file, added_option, both_assoc, files, finish, nothing_more, option, slot_said, twice}
+use Rattle.plai_words.proofs.Rows.{Holds, gatherer, has_row_is, holds_file, holds_option, id_of, rule_at, taker}
+use Rattle.plai_words.proofs.Shapes.{IsPlainWord, IsStray, all_rules, by_id, by_long, dashed_option, dashes}
 
 abbrev pub shape : Shape
 shape = record (new_shape (codes "plai")) {

@@ -1,4 +1,7 @@
 -- The command line as clap is told of it: four options, each with one value and used at most once, and files.
+-- Clap's promise (`is_simple_and_free`, `fault_of`, `matches_of`) decides each list of words but those with a
+-- word of one dash with more behind it before the first `--` (`has_bundle`): of these it speaks by the word's
+-- characters, and that a word of a list is UTF-8 is no fact that a contract sees.
 use Rattle.std.specs.Prelude.{ℕ, List, [], ◌∷◌, Some, true, codes}
 use Rattle.clap.specs.Words.{App, Rule, new_rule}
 use Rattle.clap.specs.Simple.{new_shape}

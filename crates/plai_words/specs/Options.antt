@@ -1,5 +1,5 @@
 -- The names of the options, whole, and a value behind `=` (GNU Coding Standards, 4.8; POSIX.1-2017, Base Definitions, 12.2).
-use Rattle.std.specs.Prelude.{ℕ, List, [], ◌∷◌, Bool, true, false, Option, None, Some, ◌&&◌, ◌||◌, ◌==◌, not, nat_eq, nat_lt, length, drop, codes, if◌then◌else◌}
+use Rattle.std.specs.Prelude.{ℕ, List, [], ◌∷◌, Bool, false, Option, None, Some, ◌&&◌, ◌||◌, ◌==◌, not, nat_eq, nat_lt, length, drop, codes, if◌then◌else◌}
 use Rattle.std.specs.List.{starts_with}
 use Rattle.std.specs.Str.{bytes_eq}
 

@@ -22,8 +22,8 @@ fn is_end(word: &[u8]) -> bool
     word == b"--".as_slice()
 }
 
-/// Whether a word before the first `--` is one dash with more behind it. What clap makes of such a word hangs
-/// on its characters, and no option of ours is one.
+/// Whether a word before the first `--` is one dash with more behind it, which no option of the command line
+/// is. Clap's promise on such a word speaks of its characters, so it is refused before clap sees it.
 pub fn has_bundle(words: &[&str]) -> bool
     ensures { result ≡ has_bundle (texts words.now) }
 {

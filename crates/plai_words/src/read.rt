@@ -1,18 +1,18 @@
 // The settings of the command line.
-ghost use Rattle.std.specs.Prelude.{◌≡◌, [], ◌≢◌, None, Some, IfOk, IfErr, MatchResult, IsErrOf, ℕ, List, option_map, option_to_list, unwrap_or, map};
-ghost use Rattle.clap.specs.Words.{all_of, first_of, found_of, rows_of};
+ghost use Rattle.std.specs.Prelude.{◌≡◌, [], ◌≢◌, None, Some, IfOk, IfErr, MatchResult, IsErrOf, option_map, option_to_list, unwrap_or};
+ghost use Rattle.clap.specs.Words.{all_of, found_of, rows_of};
 ghost use Rattle.plai_words.specs.Command.{completed, settings_of, texts};
 ghost use Rattle.plai_words.specs.Given.{domain_named};
 ghost use Rattle.plai_words.specs.Numbers.{number};
-ghost use Rattle.plai_words.specs.Line.{files_id, name_of};
+ghost use Rattle.plai_words.specs.Line.{files_id};
 ghost use Rattle.plai_words.specs.Taken.{noted, read_once, settings_in};
 
+use crate::bundle::has_bundle;
 use crate::command::{DEPTH, DOMAIN, FILES, MAKE, ROWS, command};
+use crate::domain::domain_named;
 use crate::fail::WordsFail;
 use crate::files::{Files, Text, copied};
-use crate::bundle::has_bundle;
 use crate::number::number;
-use crate::domain::domain_named;
 use crate::types::{DomainName, Settings};
 use clap::ArgMatches;
 use clap::error::ErrorKind;

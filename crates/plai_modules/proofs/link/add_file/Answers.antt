@@ -1,4 +1,4 @@
-use Rattle.std.proofs.Common.{List, sym, subst}
+use Rattle.std.proofs.Common.{List, subst}
 use Rattle.plai_theory.specs.Words.{IsIn}
 use Rattle.plai_sources.specs.declared.items.NumberedItem.{NumberedItem}
 use Rattle.plai_modules.proofs.link.add_file.Goals as goal

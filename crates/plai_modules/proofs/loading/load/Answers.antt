@@ -1,12 +1,7 @@
-use Rattle.std.proofs.Common.{◌≡◌, List, Ok, Err, sym, ap, ◌∙◌, subst}
-use Rattle.std.specs.Prelude.{Result}
+use Rattle.std.proofs.Common.{Ok, sym, ap, ◌∙◌}
 use Rattle.std.proofs.lemmas.Result.{err_from_is_err_and}
 use Rattle.std.proofs.lemmas.List.Elements.{All-same}
-use Rattle.plai_clauses.specs.Program.{ProgramView}
-use Rattle.plai_sources.specs.declared.items.FileItems.{FileItems}
 use Rattle.plai_sources.specs.WellFormed.{AreWellFormedItems}
-use Rattle.plai_modules.specs.Loading.{files_from, loaded}
-use Rattle.plai_modules.specs.Outcomes.{Answers}
 use Rattle.plai_modules.proofs.Passes.{texts_of, load_fails, load_links}
 use Rattle.plai_modules.proofs.loading.load.Goals as goal
 

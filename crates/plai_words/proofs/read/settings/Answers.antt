@@ -1,4 +1,4 @@
-use Rattle.std.proofs.Common.{◌≡◌, ap, sym, ◌∙◌, inl, inr}
+use Rattle.std.proofs.Common.{sym, ◌∙◌}
 use Rattle.clap.specs.Words.{app_of, found_of, rows_of}
 use Rattle.plai_words.specs.Command.{texts}
 use Rattle.plai_words.proofs.Bridge.{bundled, taken_words, refused_words}

@@ -1,6 +1,5 @@
-use Rattle.std.proofs.Common.{ap, sym, ◌∙◌, ◌≡◌, ℕ, List, Option}
-use Rattle.std.proofs.lemmas.Result.{IfOk-weaker}
-use Rattle.clap.specs.Words.{found_of, first_of, rows_of}
+use Rattle.std.proofs.Common.{ap, sym, ◌∙◌}
+use Rattle.clap.specs.Words.{found_of, rows_of}
 use Rattle.clap.proofs.WalkLemmas.{first_value-rows}
 use Rattle.plai_words.specs.Numbers.{number}
 use Rattle.plai_words.specs.Given.{domain_named}
