@@ -153,10 +153,10 @@ module _ (p : PlainDomain) (laws : IsLawful p) (printed : IsPrinted p) (program 
               (λ q j. map_in (λ (s : PlainRow). ((k : ℕ) × Reaches (as_domain p) (as_program p program) (source_of (as_domain p) rows) k (row_of p s).name) × (answer_in s.answer ≡ source_of (as_domain p) rows s.name.pred s.name.call))
               (plain_at p rows) names q (in_permutation q sorted (plain_rows p rows names) back j) (λ x l. sound_row x l));
           whole = λ k x r. (
-                row_of p (plain_at p rows x),
-                in_map (row_of p) sorted (plain_at p rows x) (in_permutation (plain_at p rows x) (plain_rows p rows names) sorted moved (in_map (plain_at p rows) names x (gathered r))),
-                refl,
-              );
+            row_of p (plain_at p rows x),
+            in_map (row_of p) sorted (plain_at p rows x) (in_permutation (plain_at p rows x) (plain_rows p rows names) sorted moved (in_map (plain_at p rows) names x (gathered r))),
+            refl,
+          );
         })
 
     pub table_within : (sorted : List PlainRow) → IsPermutation (plain_rows p rows names) sorted → length sorted ≤ limit

@@ -145,11 +145,11 @@ module _ (p : PlainDomain) (laws : IsLawful p) (program : ProgramView) (good : I
         let (distinct, few) = adds_distinct V value_of limit names old all.adds reaching.distinct reaching.few in
         record {
           reaching = record {
-              reached = adds_from V value_of limit names old all.adds IsReached all_reached reaching.reached;
-              distinct = distinct;
-              few = few;
-              entries = λ x i. stays_in V value_of limit names old new all.adds x (reaching.entries x i);
-            };
+            reached = adds_from V value_of limit names old all.adds IsReached all_reached reaching.reached;
+            distinct = distinct;
+            few = few;
+            entries = λ x i. stays_in V value_of limit names old new all.adds x (reaching.entries x i);
+          };
           keeps = adds_keeps V value_of limit names old all.adds;
         }
 
