@@ -7,7 +7,7 @@ use Rattle.std.proofs.lemmas.List.Elements.{recursion_from_All}
 use Rattle.std.proofs.lemmas.List.Sorted.{Contains-permutation, IsPermutation-sym, length_permutation}
 use Rattle.plai_theory.specs.Words.{IsIn, UpTo, AreDistinct}
 use Rattle.plai_theory.specs.Domain.{Name}
-use Rattle.plai_theory.specs.LeastTable.{Row, IsOrdered, IsTableOf}
+use Rattle.plai_theory.specs.LeastTable.{Row, IsOrdered}
 use Rattle.plai_theory.specs.Stages.{Reaches, AtEntry, ByCall}
 use Rattle.plai_theory.specs.Tables.{source_of}
 use Rattle.plai_theory.proofs.Rounds.{map_in, rounds_least}
@@ -15,11 +15,11 @@ use Rattle.plai_terms.specs.declared.abs.Abs.{Abs}
 use Rattle.plai_terms.specs.declared.abs.Abs.TheVariants.{Nothing, Pos, Groups, Terms}
 use Rattle.plai_terms.specs.declared.pred_key.PredKey.{PredKey}
 use Rattle.plai_terms.specs.declared.plain_row.PlainRow.{PlainRow}
-use Rattle.plai_terms.specs.Pattern.{arity_of, pattern_text}
+use Rattle.plai_terms.specs.Pattern.{arity_of}
 use Rattle.plai_terms.specs.RowOrder.{IsBefore, HaveSameText}
 use Rattle.plai_terms.specs.Rows.{AreInOrder}
 use Rattle.plai_domain.specs.Plain.{PlainDomain}
-use Rattle.plai_domain.specs.Conditions.{most_arguments, IsValue}
+use Rattle.plai_domain.specs.Conditions.{IsValue}
 use Rattle.plai_domain.specs.Laws.{IsLawful}
 use Rattle.plai_domain.specs.Printed.{IsPrinted}
 use Rattle.plai_clauses.specs.Program.{ProgramView}

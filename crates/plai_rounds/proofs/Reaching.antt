@@ -3,12 +3,10 @@ use Rattle.std.proofs.Common.{◌≡◌, ℕ, zero, suc, ◌+◌, ◌<◌, ◌�
 use Rattle.std.proofs.lemmas.List.{take_more}
 use Rattle.plai_theory.specs.Words.{IsIn, AreDistinct}
 use Rattle.plai_theory.specs.Domain.{Name}
-use Rattle.plai_theory.specs.Domain as theory
-use Rattle.plai_theory.specs.Evaluation.{calls_of}
 use Rattle.plai_theory.specs.LeastTable.{Row}
 use Rattle.plai_theory.specs.Stages.{Reaches, AtEntry, ByCall}
 use Rattle.plai_theory.specs.Tables.{source_of}
-use Rattle.plai_theory.specs.Rounds.{IsMade, Begin, IsAsked}
+use Rattle.plai_theory.specs.Rounds.{Begin, IsAsked}
 use Rattle.plai_theory.proofs.Rounds.{made_low, from_below, push_in}
 use Rattle.plai_theory.proofs.Least.{reached_value}
 use Rattle.plai_theory.proofs.Near.{IsNear}
@@ -29,9 +27,9 @@ use Rattle.plai_rounds.specs.declared.analyse_fail.AnalyseFail.TheVariants.{Memo
 use Rattle.plai_rounds.specs.Names.{key_name, names_in, rows_of, names_of}
 use Rattle.plai_rounds.specs.Adding.{Adds, Same, Next, AddsAll, IsFull, StopsAdding}
 use Rattle.plai_rounds.specs.declared.change.Change.TheVariants.{Nothing}
-use Rattle.plai_rounds.specs.Making.{IsMaking, AreQuiet, IsEvaluation, IsSettling}
+use Rattle.plai_rounds.specs.Making.{IsMaking, IsEvaluation, IsSettling}
 use Rattle.plai_rounds.specs.Reaching.{IsReaching, IsDone, IsReachStep, HasCalls, HasAllCalls}
-use Rattle.plai_rounds.specs.Causes.{AreTooMany, HasCause}
+use Rattle.plai_rounds.specs.Causes.{HasCause}
 use Rattle.plai_rounds.proofs.Lists.{map_push, length_push, length_map, place_of, get_in, get_map, get_some, get_within}
 use Rattle.plai_rounds.proofs.Working.{entry_at}
 use Rattle.plai_rounds.proofs.Sweeping.{below_next}

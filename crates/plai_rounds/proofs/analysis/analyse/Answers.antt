@@ -1,9 +1,7 @@
-use Rattle.std.proofs.Common.{◌≡◌, All, List, IfErr, sym, refl, ap, ◌∙◌, subst, rules}
+use Rattle.std.proofs.Common.{All, List, sym, subst}
 use Rattle.std.specs.List.Sorted.{IsPermutation}
 use Rattle.plai_terms.specs.declared.plain_row.PlainRow.{PlainRow}
-use Rattle.plai_terms.specs.Rows.{AreInOrder}
 use Rattle.plai_render.specs.Order.{IsNarrow, AreApart}
-use Rattle.plai_rounds.specs.declared.analyse_fail.AnalyseFail.TheVariants.{Memory}
 use Rattle.plai_rounds.specs.Names.{names_in, rows_of}
 use Rattle.plai_rounds.specs.Output.{plain_rows}
 use Rattle.plai_rounds.specs.Reaching.{IsDone}
