@@ -29,7 +29,7 @@ use Rattle.plai_top.proofs.Outcomes.{words_are_one, not_by_words, early_is_one, 
 pub stop_keeps_words : (A : Type 0) (words : List (List ℕ)) (stop : Stop) → (stop ≡ Memory) ⊎ IsByWords words (silent (status_of stop))
     → KeepsWords {A = A} words (Err stop)
 stop_keeps_words A words stop (inl memory) outcome is = inr memory
-stop_keeps_words A words stop (inr by) outcome is = inl (ap (λ o. o.status) (words_are_one words _ outcome by is))
+stop_keeps_words A words stop (inr by) outcome is = inl (words_are_one words _ outcome by is)
 
 -- a command that is carried out keeps it too
 pub command_keeps_words : (A : Type 0) (words : List (List ℕ)) (settings : Settings) (result : Result A Stop) → IsCommand words settings
@@ -176,4 +176,4 @@ pub stop_keeps_early : (words : List (List ℕ)) (told : Option TextMap) (stop :
 stop_keeps_early words None stop P ends failed = tt
 stop_keeps_early words (Some files) stop P (inl (inl fault)) failed = λ outcome other. inr (inl (fault, failed fault))
 stop_keeps_early words (Some files) stop P (inl (inr memory)) failed = λ outcome other. inr (inr memory)
-stop_keeps_early words (Some files) stop P (inr is) failed = λ outcome other. inl (ap (λ o. o.status) (early_is_one words files _ outcome is other))
+stop_keeps_early words (Some files) stop P (inr is) failed = λ outcome other. inl (early_is_one words files _ outcome is other)

@@ -46,15 +46,18 @@ EndsByEach words files script result before after =
 abbrev pub EndsByWords : List (List ℕ) → ℕ → Type 0
 EndsByWords words result = (outcome : Outcome) → IsByWords words outcome → (result ≡ outcome.status) ⊎ (result ≡ 7)
 
--- what the words and the files decide came, unless the library failed, the sink failed and there was something to
--- write, or memory ran out
-abbrev pub EndsEarly : List (List ℕ) → TextMap → ℕ → Type 0 → Type 0
-EndsEarly words files result LibraryFailed = (outcome : Outcome) → IsEarly words files outcome →
-    (result ≡ outcome.status) ⊎ ((result ≡ 5) × LibraryFailed) ⊎ ((result ≡ 6) × (outcome.bytes ≢ [])) ⊎ (result ≡ 7)
+-- the call ended by what the words and the files decide, and a read failed only in the library
+abbrev pub EndsEarly : List (List ℕ) → TextMap → ℕ → Option (List ℕ) → Option (List ℕ) → Type 0 → Type 0
+EndsEarly words files result before after LibraryFailed = (outcome : Outcome) → IsEarly words files outcome
+    → EndsBy result before after outcome × (result ≡ 5 → LibraryFailed)
 
 -- a status at which nothing is written
 abbrev pub IsSilent : ℕ → Type 0
 IsSilent result = (result ≡ 2) ⊎ (result ≡ 4) ⊎ (result ≡ 5) ⊎ (result ≡ 8)
+
+-- a status that is decided before the script is read
+abbrev pub IsBeforeScript : ℕ → Type 0
+IsBeforeScript result = (result ≡ 2) ⊎ (result ≡ 3) ⊎ (result ≡ 4)
 
 -- a status that is decided before the analysis
 abbrev pub IsBeforeWork : ℕ → Type 0

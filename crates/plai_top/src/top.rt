@@ -3,10 +3,10 @@ ghost use Rattle.std.specs.Prelude.{◌≡◌, ◌≢◌, ◌≤◌, ◌⊎◌, 
 ghost use Rattle.std.specs.Io.KnownBytes.{Keeps, IsAtEnd};
 ghost use Rattle.plai_base.specs.Causes.{Rose};
 ghost use Rattle.plai_words.specs.Command.{settings_of, texts};
-ghost use Rattle.plai_top.specs.Ending.{IsFaultOrComes, EndsByEach, EndsByWords, EndsEarly, IsSilent, IsBeforeWork, IsStatus};
+ghost use Rattle.plai_top.specs.Ending.{IsFaultOrComes, EndsByEach, EndsByWords, EndsEarly, IsSilent, IsBeforeScript, IsBeforeWork, IsStatus};
 ghost use Rattle.plai_top.specs.Loadings.{IsPrepared, IsWellFormedLoading};
-ghost use Rattle.plai_top.specs.Outcome.{IsEarly, IsOutcome, OutcomeIsOne, silent};
-ghost use Rattle.plai_top.specs.Outputs.{outcome_of, KeepsWords, KeepsEarly};
+ghost use Rattle.plai_top.specs.Outcome.{Outcome, IsByWords, IsEarly, IsOutcome, OutcomeIsOne, silent};
+ghost use Rattle.plai_top.specs.Outputs.{outcome_of, KeepsWords, KeepsEarly, IsUnread};
 ghost use Rattle.plai_top.specs.Stops.{status_of, IsReadEnd};
 ghost use Rattle.plai_top.specs.Told.{IfBothTold};
 
@@ -54,6 +54,7 @@ fn prepare<B: Library>(alloc: Global, words: &[&str], library: &mut B) -> Result
     ensures words { KeepsWords (texts words.now) result }
     ensures command { IsErrOf result Stop.NoCommand → settings_of (texts words.now) ≡ None }
     ensures no_write { IsErrOf result Stop.WriteFault → ⊥ }
+    ensures unread { (outcome : Outcome) → IsByWords (texts words.now) outcome → B.faults library.new ≡ B.faults library.old }
     ensures later { B.faults library.old ≤ B.faults library.new }
     ensures failed { IsErrOf result Stop.ReadFault → Rose (B.faults library.old) (B.faults library.new) }
 {
@@ -99,6 +100,13 @@ fn output<B: Library, S: Source, W: Work, L: Ledger>(
     ensures script_later { S.faults script.old ≤ S.faults script.new }
     ensures failed { IsErrOf result Stop.ReadFault → Rose (B.faults library.old) (B.faults library.new) ⊎ Rose (S.faults script.old) (S.faults script.new) }
 
+    // What isn't reached isn't read.
+    ensures unread_files { (outcome : Outcome) → IsByWords (texts words.now) outcome → (B.faults library.new ≡ B.faults library.old)
+        × (S.left script.new ≡ S.left script.old) × (S.faults script.new ≡ S.faults script.old) }
+    ensures unread_script { MatchResult result
+        (λ output. output.status ≡ 3 → (S.left script.new ≡ S.left script.old) × (S.faults script.new ≡ S.faults script.old))
+        (λ stop. IsUnread stop → (S.left script.new ≡ S.left script.old) × (S.faults script.new ≡ S.faults script.old)) }
+
     // Work and steps are those of the analysis.
     ensures noted { MatchResult result (λ output. output.status ≡ 3 → W.entries work.new ≡ W.entries work.old)
         (λ stop. (stop ≡ Stop.Memory → ⊥) → W.entries work.new ≡ W.entries work.old) }
@@ -117,7 +125,8 @@ fn output<B: Library, S: Source, W: Work, L: Ledger>(
     }
 }
 
-/// Analyses the files that the words name under groundness, and writes the table. The answer is the program's status.
+/// Analyses the files that the words name under groundness, and writes the table. The answer is the program's status,
+/// from 0 to 8.
 ///
 /// | Status | Comes |
 /// |---|---|
@@ -125,11 +134,11 @@ fn output<B: Library, S: Source, W: Work, L: Ledger>(
 /// | 1 | all was done, but the analysis met its limit of rows, which the sink took the line of |
 /// | 2 | the words form no command; nothing was written |
 /// | 3 | loading refused a term; the sink took the line that names it |
-/// | 4 | there are more than 64 files, or a file has too many bytes; nothing was written |
+/// | 4 | there are more than 64 files, or a file has more than 4,194,304 bytes; nothing was written |
 /// | 5 | the library or the script failed; nothing was written |
 /// | 6 | the sink failed; a part of the output was written |
 /// | 7 | memory is wanting; a part of the output was written |
-/// | 8 | the words, the loaded program or the script have a form that isn't taken yet; nothing was written |
+/// | 8 | the words name another domain or `--make`, the loaded program has a check, or the script has a byte: forms that aren't taken yet; nothing was written |
 pub fn run<B: Library, S: Source, K: Sink, W: Work, L: Ledger>(
     alloc: Global,
     words: &[&str],
@@ -152,7 +161,7 @@ pub fn run<B: Library, S: Source, K: Sink, W: Work, L: Ledger>(
     // What the words decide comes before the files, and what the files decide before the script.
     ensures refused { EndsByWords (texts words.now) result }
     ensures early { IfSome (B.files library.old) (λ files.
-        EndsEarly (texts words.now) files result (Rose (B.faults library.old) (B.faults library.new))) }
+        EndsEarly (texts words.now) files result (K.taken sink.old) (K.taken sink.new) (Rose (B.faults library.old) (B.faults library.new))) }
     ensures command { result ≡ 2 → settings_of (texts words.now) ≡ None }
     ensures known { IsStatus result }
 
@@ -162,6 +171,11 @@ pub fn run<B: Library, S: Source, K: Sink, W: Work, L: Ledger>(
     ensures library_later { B.faults library.old ≤ B.faults library.new }
     ensures script_later { S.faults script.old ≤ S.faults script.new }
     ensures sink_later { K.faults sink.old ≤ K.faults sink.new }
+
+    // What isn't reached isn't read: the files where the words decide, the script at 2, 3 and 4.
+    ensures unread_files { (outcome : Outcome) → IsByWords (texts words.now) outcome → (B.faults library.new ≡ B.faults library.old)
+        × (S.left script.new ≡ S.left script.old) × (S.faults script.new ≡ S.faults script.old) }
+    ensures unread_script { IsBeforeScript result → (S.left script.new ≡ S.left script.old) × (S.faults script.new ≡ S.faults script.old) }
 
     // At 0 and 1 the script was read to its end, and at a status without output nothing was written.
     ensures end { (result ≡ 0) ⊎ (result ≡ 1) → IsAtEnd (S.left script.new) }
