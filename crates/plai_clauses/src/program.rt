@@ -3,13 +3,12 @@ ghost use Rattle.std.specs.Prelude.{◌≡◌, None, ◌≤◌, ◌-◌, ◌^◌
 ghost use Rattle.std.specs.Option.{option_copied};
 ghost use Rattle.plai_domain.specs.Conditions.{most_arguments};
 ghost use Rattle.plai_clauses.specs.Program.{clauses_of, module_in, items_of, resolved, empty, with_module, with_clause_of, without_clause, without_clauses, with_entry, with_check, without_entry, without_check, homes_of_entries, homes_of_checks, IsNumber};
-ghost use Rattle.plai_clauses.specs.Uses.{calls_builtins};
 
 use crate::check::Check;
 use crate::clause::Clause;
 use crate::definition::{
-    Definition, calls_builtins, clauses_in, clear_clauses, copy_definitions, count_clauses,
-    push_clause, remove_clause,
+    Definition, clauses_in, clear_clauses, copy_definitions, count_clauses, push_clause,
+    remove_clause,
 };
 use crate::entry::Entry;
 use crate::homes::{place_behind, place_of};
@@ -211,13 +210,6 @@ impl Program {
         ensures { result.now ≡ self.now.checks }
     {
         self.checks.as_slice()
-    }
-
-    /// Whether some literal of some clause calls a builtin. It takes no memory.
-    pub fn calls_builtins(&self) -> bool
-        ensures { result ≡ calls_builtins self.now }
-    {
-        calls_builtins(&self.definitions)
     }
 
     /// The module whose predicate the module speaks of by that name and number of arguments: the exporting one where it

@@ -7,7 +7,7 @@ use Rattle.std.proofs.lemmas.List.Elements.{recursion_from_All}
 use Rattle.std.proofs.lemmas.List.Sorted.{Contains-permutation, IsPermutation-sym, length_permutation}
 use Rattle.plai_theory.specs.Words.{IsIn, UpTo, AreDistinct}
 use Rattle.plai_theory.specs.Domain.{Name}
-use Rattle.plai_theory.specs.LeastTable.{Row, IsOrdered, IsTableOf}
+use Rattle.plai_theory.specs.LeastTable.{Row, IsOrdered}
 use Rattle.plai_theory.specs.Stages.{Reaches, AtEntry, ByCall}
 use Rattle.plai_theory.specs.Tables.{source_of}
 use Rattle.plai_theory.proofs.Rounds.{map_in, rounds_least}
@@ -15,11 +15,11 @@ use Rattle.plai_terms.specs.declared.abs.Abs.{Abs}
 use Rattle.plai_terms.specs.declared.abs.Abs.TheVariants.{Nothing, Pos, Groups, Terms}
 use Rattle.plai_terms.specs.declared.pred_key.PredKey.{PredKey}
 use Rattle.plai_terms.specs.declared.plain_row.PlainRow.{PlainRow}
-use Rattle.plai_terms.specs.Pattern.{arity_of, pattern_text}
+use Rattle.plai_terms.specs.Pattern.{arity_of}
 use Rattle.plai_terms.specs.RowOrder.{IsBefore, HaveSameText}
 use Rattle.plai_terms.specs.Rows.{AreInOrder}
 use Rattle.plai_domain.specs.Plain.{PlainDomain}
-use Rattle.plai_domain.specs.Conditions.{most_arguments, IsValue}
+use Rattle.plai_domain.specs.Conditions.{IsValue}
 use Rattle.plai_domain.specs.Laws.{IsLawful}
 use Rattle.plai_domain.specs.Printed.{IsPrinted}
 use Rattle.plai_clauses.specs.Program.{ProgramView}
@@ -153,10 +153,10 @@ module _ (p : PlainDomain) (laws : IsLawful p) (printed : IsPrinted p) (program 
               (λ q j. map_in (λ (s : PlainRow). ((k : ℕ) × Reaches (as_domain p) (as_program p program) (source_of (as_domain p) rows) k (row_of p s).name) × (answer_in s.answer ≡ source_of (as_domain p) rows s.name.pred s.name.call))
               (plain_at p rows) names q (in_permutation q sorted (plain_rows p rows names) back j) (λ x l. sound_row x l));
           whole = λ k x r. (
-                row_of p (plain_at p rows x),
-                in_map (row_of p) sorted (plain_at p rows x) (in_permutation (plain_at p rows x) (plain_rows p rows names) sorted moved (in_map (plain_at p rows) names x (gathered r))),
-                refl,
-              );
+            row_of p (plain_at p rows x),
+            in_map (row_of p) sorted (plain_at p rows x) (in_permutation (plain_at p rows x) (plain_rows p rows names) sorted moved (in_map (plain_at p rows) names x (gathered r))),
+            refl,
+          );
         })
 
     pub table_within : (sorted : List PlainRow) → IsPermutation (plain_rows p rows names) sorted → length sorted ≤ limit

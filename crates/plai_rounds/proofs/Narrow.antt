@@ -1,5 +1,5 @@
 -- Predicates that are called, and those of entries, have few arguments.
-use Rattle.std.proofs.Common.{◌≡◌, ℕ, ◌≤◌, List, [], ◌∷◌, length, Option, Some, None, sym, refl, ap, subst, inl, inr}
+use Rattle.std.proofs.Common.{ℕ, ◌≤◌, List, [], ◌∷◌, length, refl, subst, inl, inr}
 use Rattle.plai_theory.specs.Words.{IsIn}
 use Rattle.plai_theory.specs.Domain.{Step, Goal, Do, Name}
 use Rattle.plai_theory.specs.Evaluation.{calls_along, calls_of}

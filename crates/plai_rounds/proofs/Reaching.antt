@@ -3,12 +3,10 @@ use Rattle.std.proofs.Common.{◌≡◌, ℕ, zero, suc, ◌+◌, ◌<◌, ◌�
 use Rattle.std.proofs.lemmas.List.{take_more}
 use Rattle.plai_theory.specs.Words.{IsIn, AreDistinct}
 use Rattle.plai_theory.specs.Domain.{Name}
-use Rattle.plai_theory.specs.Domain as theory
-use Rattle.plai_theory.specs.Evaluation.{calls_of}
 use Rattle.plai_theory.specs.LeastTable.{Row}
 use Rattle.plai_theory.specs.Stages.{Reaches, AtEntry, ByCall}
 use Rattle.plai_theory.specs.Tables.{source_of}
-use Rattle.plai_theory.specs.Rounds.{IsMade, Begin, IsAsked}
+use Rattle.plai_theory.specs.Rounds.{Begin, IsAsked}
 use Rattle.plai_theory.proofs.Rounds.{made_low, from_below, push_in}
 use Rattle.plai_theory.proofs.Least.{reached_value}
 use Rattle.plai_theory.proofs.Near.{IsNear}
@@ -28,9 +26,10 @@ use Rattle.plai_rounds.specs.declared.analyse_fail.AnalyseFail.{AnalyseFail}
 use Rattle.plai_rounds.specs.declared.analyse_fail.AnalyseFail.TheVariants.{Memory, Rows, Groups}
 use Rattle.plai_rounds.specs.Names.{key_name, names_in, rows_of, names_of}
 use Rattle.plai_rounds.specs.Adding.{Adds, Same, Next, AddsAll, IsFull, StopsAdding}
-use Rattle.plai_rounds.specs.Making.{IsMaking, AreQuiet, IsEvaluation}
+use Rattle.plai_rounds.specs.declared.change.Change.TheVariants.{Nothing}
+use Rattle.plai_rounds.specs.Making.{IsMaking, IsEvaluation, IsSettling}
 use Rattle.plai_rounds.specs.Reaching.{IsReaching, IsDone, IsReachStep, HasCalls, HasAllCalls}
-use Rattle.plai_rounds.specs.Causes.{AreTooMany, HasCause}
+use Rattle.plai_rounds.specs.Causes.{HasCause}
 use Rattle.plai_rounds.proofs.Lists.{map_push, length_push, length_map, place_of, get_in, get_map, get_some, get_within}
 use Rattle.plai_rounds.proofs.Working.{entry_at}
 use Rattle.plai_rounds.proofs.Sweeping.{below_next}
@@ -144,11 +143,11 @@ module _ (p : PlainDomain) (laws : IsLawful p) (program : ProgramView) (good : I
         let (distinct, few) = adds_distinct V value_of limit names old all.adds reaching.distinct reaching.few in
         record {
           reaching = record {
-              reached = adds_from V value_of limit names old all.adds IsReached all_reached reaching.reached;
-              distinct = distinct;
-              few = few;
-              entries = λ x i. stays_in V value_of limit names old new all.adds x (reaching.entries x i);
-            };
+            reached = adds_from V value_of limit names old all.adds IsReached all_reached reaching.reached;
+            distinct = distinct;
+            few = few;
+            entries = λ x i. stays_in V value_of limit names old new all.adds x (reaching.entries x i);
+          };
           keeps = adds_keeps V value_of limit names old all.adds;
         }
 
@@ -247,4 +246,16 @@ begun p program limit rows V value_of entries making whole sound =
       distinct = subst AreDistinct (names_same value_of p entries) (names_distinct p (rows_of value_of p entries) making.distinct);
       few = omega arith;
       entries = whole;
+    }
+
+-- rounds that ended where nothing changes, from the entries' rows on
+pub settled_done : (p : PlainDomain) (program : ProgramView) (limit : ℕ) (V : Type 0) (value_of : V → Abs) (old : List (Key V × Option V)) (rows : List (Row (as_domain p)))
+    → ((x : Name PredKey Abs) → IsIn x (as_program p program).entries → IsIn x (names_in value_of old)) → IsSettling p program limit (rows_of value_of p old) rows Nothing → IsDone p program limit rows
+settled_done p program limit V value_of old rows whole settled =
+    record {
+      making = settled.making;
+      quiet = settled.settles;
+      entries = λ x i.
+          let (k, h, e) = place_of (names_of p (rows_of value_of p old)) x (subst (IsIn x) (sym (names_same value_of p old)) (whole x i)) in
+          get_in (names_of p rows) k x (settled.keeps k x e);
     }

@@ -1,5 +1,5 @@
 -- Parts of a round, one after another.
-use Rattle.std.proofs.Common.{◌≡◌, ℕ, zero, suc, ◌+◌, ◌<◌, ◌≤◌, List, length, Option, Some, None, slice_get, sym, refl, ap, ◌∙◌, subst, arith}
+use Rattle.std.proofs.Common.{◌≡◌, ℕ, zero, suc, ◌<◌, ◌≤◌, List, length, Option, sym, refl, ◌∙◌, subst, arith}
 use Rattle.plai_theory.specs.LeastTable.{Row}
 use Rattle.plai_domain.specs.Plain.{PlainDomain}
 use Rattle.plai_clauses.specs.Program.{ProgramView}

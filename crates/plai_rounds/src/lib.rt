@@ -4,6 +4,7 @@
 #![tactic(auto)]
 
 mod analyse_fail;
+mod analysis;
 mod change;
 mod evaluation;
 mod output;
@@ -14,3 +15,4 @@ mod rows;
 mod task;
 
 pub use analyse_fail::AnalyseFail;
+pub use analysis::analyse;

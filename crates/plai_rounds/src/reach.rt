@@ -32,7 +32,9 @@ fn entry_keys<D: Domain>(task: &Task<D>) -> Result<Vec<Key<D::Value>>, AllocErro
     let mut keys = Vec::new(task.alloc);
     for entry in task.program.entries() {
         let pred = entry.pred.copy(task.alloc)?;
-        let call = task.domain.describe(task.alloc, pred.arity, entry.pre.as_slice())?;
+        let call = task
+            .domain
+            .describe(task.alloc, pred.arity, entry.pre.as_slice())?;
         keys.push(Key { pred, call })?;
     }
     Ok(keys)
@@ -75,8 +77,16 @@ fn reach_clause<D: Domain, W: Work, L: Ledger>(
     ensures causes { IfErr result (HasCause (D.plain task.now.domain.now) task.now.program.now task.now.limit) }
 {
     let name = name_at::<D>(reached, index);
-    let Evaluated { answer: _, calls } =
-        evaluate_clause(task.alloc, task.domain, rows, name, clause, number, work, steps)?;
+    let Evaluated { answer: _, calls } = evaluate_clause(
+        task.alloc,
+        task.domain,
+        rows,
+        name,
+        clause,
+        number,
+        work,
+        steps,
+    )?;
     let _ = add_all::<D>(reached, calls.into_vec(), task.limit)?;
     Ok(())
 }

@@ -4,7 +4,7 @@ ghost use Rattle.plai_terms.specs.Pattern.{arity_of};
 use crate::{
     Abs, Args, Listed, Name, NonEmpty, Outcome, PredKey, Prop, ReadTerm, RowName, Skeleton, Subst,
     Term, equality_is_exact, print_abs, print_atom, print_name, print_quoted, print_term,
-    rows_are_ordered, term_texts_differ, texts_differ,
+    rows_are_ordered, term_texts_differ, texts_differ, unifiers_are_most_general, unify,
 };
 use plai_base::Mask;
 use std::alloc::{AllocError, Global};

@@ -4,7 +4,6 @@ use Rattle.plai_base.specs.Texts.{TextMap, text_of, longest_text}
 use Rattle.plai_words.specs.declared.types.Settings.{Settings}
 use Rattle.plai_clauses.specs.declared.check.Check.{Check}
 use Rattle.plai_clauses.specs.Program.{ProgramView}
-use Rattle.plai_clauses.specs.Uses.{calls_builtins}
 use Rattle.plai_modules.specs.Loading.{Refusal, loaded}
 use Rattle.plai_top.specs.Commands.{IsCommand}
 
@@ -28,9 +27,9 @@ abbrev pub has_no_checks : List Check → Bool
 has_no_checks [] = true
 has_no_checks _ = false
 
--- a program that is analysed as yet: without checks and without builtins
+-- a program that is analysed as yet: one without checks
 abbrev pub is_built_program : ProgramView → Bool
-is_built_program program = has_no_checks program.checks && not (calls_builtins program)
+is_built_program program = has_no_checks program.checks
 
 -- the words form a command, whose files aren't too long
 pub record HasFiles (words : List (List ℕ)) (files : TextMap) (settings : Settings) : Type 0 where

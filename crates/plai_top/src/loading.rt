@@ -33,7 +33,7 @@ fn has_no_checks(checks: &[Check]) -> bool
 fn is_built(program: &Program) -> bool
     ensures { result ≡ is_built_program program.now }
 {
-    has_no_checks(program.checks()) && !program.calls_builtins()
+    has_no_checks(program.checks())
 }
 
 /// The line of a refusal in the file of that number, from 1.

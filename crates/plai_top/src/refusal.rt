@@ -40,12 +40,7 @@ fn write_lexical(cause: LexCause, at: u64, out: &mut Vec<u8>) -> Result<(), Allo
 
 /// Appends a key: a name and a number of arguments.
 #[tactic(auto, unfolding(crate::specs::Refusal::key_text))]
-fn write_key(
-    alloc: Global,
-    name: &Name,
-    arity: u32,
-    out: &mut Vec<u8>,
-) -> Result<(), AllocError>
+fn write_key(alloc: Global, name: &Name, arity: u32, out: &mut Vec<u8>) -> Result<(), AllocError>
     ensures { OnOk result (out.new.items ≡ out.old.items ++ key_text name.now arity) }
 {
     print_atom(alloc, name, out)?;

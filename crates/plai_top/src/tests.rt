@@ -96,10 +96,7 @@ fn worked_tables(rt: HostRuntime) -> Result<(), Fail> {
             b":- module(m, []).\n:- entry app(X,Y,Z) : (ground(X), ground(Y)). app([],L,L). app([H|T],L,[H|R]) :- app(T,L,R).",
             b"edit 0\nrow m:app/3 call (1 (2 t f) f) answer (1 (2 (3 t f) f) f)\nend\n",
         ),
-        (
-            b":- module(m, []).\n",
-            b"edit 0\nend\n",
-        ),
+        (b":- module(m, []).\n", b"edit 0\nend\n"),
         (
             b":- module(m, []).\n:- entry p(X). p(X) :- p(X).",
             b"edit 0\nrow m:p/1 call t answer none\nend\n",
@@ -137,12 +134,10 @@ fn rows_made_on_the_way_are_not_printed(rt: HostRuntime) -> Result<(), Fail> {
 #[test]
 fn mutual_recursion_needs_its_base_case(rt: HostRuntime) -> Result<(), Fail> {
     let alloc = rt.alloc();
-    let cases: [(&[u8], &[u8]); 1] = [
-        (
-            b":-(module(m,[])).\n:-(entry(p(X))).\n:-(p(X),q(X)).\n:-(q(X),p(X)).\nq(a).\n",
-            b"edit 0\nrow m:p/1 call t answer (1 t f)\nrow m:q/1 call t answer (1 t f)\nend\n",
-        ),
-    ];
+    let cases: [(&[u8], &[u8]); 1] = [(
+        b":-(module(m,[])).\n:-(entry(p(X))).\n:-(p(X),q(X)).\n:-(q(X),p(X)).\nq(a).\n",
+        b"edit 0\nrow m:p/1 call t answer (1 t f)\nrow m:q/1 call t answer (1 t f)\nend\n",
+    )];
     for (text, want) in cases {
         assert!(rt; has_table(alloc, text, want)?);
     }
@@ -152,12 +147,10 @@ fn mutual_recursion_needs_its_base_case(rt: HostRuntime) -> Result<(), Fail> {
 #[test]
 fn a_predicate_without_clauses_has_no_answer(rt: HostRuntime) -> Result<(), Fail> {
     let alloc = rt.alloc();
-    let cases: [(&[u8], &[u8]); 1] = [
-        (
-            b":- module(m, []).\n:- entry p(X). p(X) :- nope(X).",
-            b"edit 0\nrow m:nope/1 call t answer none\nrow m:p/1 call t answer none\nend\n",
-        ),
-    ];
+    let cases: [(&[u8], &[u8]); 1] = [(
+        b":- module(m, []).\n:- entry p(X). p(X) :- nope(X).",
+        b"edit 0\nrow m:nope/1 call t answer none\nrow m:p/1 call t answer none\nend\n",
+    )];
     for (text, want) in cases {
         assert!(rt; has_table(alloc, text, want)?);
     }
@@ -239,14 +232,8 @@ fn refused_terms(rt: HostRuntime) -> Result<(), Fail> {
             b":- module(m, []).\np(X) :- q(X)",
             b"refused 'a.pl' 2 syntax\n",
         ),
-        (
-            b"p(a).",
-            b"refused 'a.pl' 1 no_module\n",
-        ),
-        (
-            b"",
-            b"refused 'a.pl' 1 no_module\n",
-        ),
+        (b"p(a).", b"refused 'a.pl' 1 no_module\n"),
+        (b"", b"refused 'a.pl' 1 no_module\n"),
         (
             b":- module(m, []).\np('x\ny').",
             b"refused 'a.pl' 2 open_quote 20\n",
@@ -334,7 +321,15 @@ fn refused_terms(rt: HostRuntime) -> Result<(), Fail> {
         ),
     ];
     for (name, first, second, line) in two {
-        assert!(rt; gives(alloc, &["a.pl", name], &[("a.pl", first), (name, second)], 3, line)?);
+        assert!(rt;
+            gives(
+                alloc,
+                &["a.pl", name],
+                &[("a.pl", first), (name, second)],
+                3,
+                line
+            )?
+        );
     }
     Ok(())
 }
@@ -342,9 +337,12 @@ fn refused_terms(rt: HostRuntime) -> Result<(), Fail> {
 #[test]
 fn two_files_are_one_program(rt: HostRuntime) -> Result<(), Fail> {
     let alloc = rt.alloc();
-    let sort = b":- module(sort, [qsort/2]).\n:- use_module(lists, [app/3]).\n:- entry qsort(X, Y) : (ground(X), var(Y)).\nqsort([], []).\nqsort([H|T], S) :- part(T, H, L, G), qsort(L, SL), qsort(G, SG), app(SL, [H|SG], S).\npart([], _, [], []).\npart([X|Xs], P, [X|L], G) :- part(Xs, P, L, G).\npart([X|Xs], P, L, [X|G]) :- part(Xs, P, L, G).\n";
-    let lists = b":- module(lists, [app/3]).\napp([], L, L).\napp([H|T], L, [H|R]) :- app(T, L, R).\n";
-    let want = b"edit 0\nrow lists:app/3 call (1 (2 t f) f) answer (1 (2 (3 t f) f) f)\nrow sort:part/4 call (1 (2 t f) f) answer (1 (2 (3 (4 t f) f) f) f)\nrow sort:qsort/2 call (1 t f) answer (1 (2 t f) f)\nend\n";
+    let sort =
+        b":- module(sort, [qsort/2]).\n:- use_module(lists, [app/3]).\n:- entry qsort(X, Y) : (ground(X), var(Y)).\nqsort([], []).\nqsort([H|T], S) :- part(T, H, L, G), qsort(L, SL), qsort(G, SG), app(SL, [H|SG], S).\npart([], _, [], []).\npart([X|Xs], P, [X|L], G) :- part(Xs, P, L, G).\npart([X|Xs], P, L, [X|G]) :- part(Xs, P, L, G).\n";
+    let lists =
+        b":- module(lists, [app/3]).\napp([], L, L).\napp([H|T], L, [H|R]) :- app(T, L, R).\n";
+    let want =
+        b"edit 0\nrow lists:app/3 call (1 (2 t f) f) answer (1 (2 (3 t f) f) f)\nrow sort:part/4 call (1 (2 t f) f) answer (1 (2 (3 (4 t f) f) f) f)\nrow sort:qsort/2 call (1 t f) answer (1 (2 t f) f)\nend\n";
     let files: [File<'_>; 2] = [("sort.pl", sort.as_slice()), ("lists.pl", lists.as_slice())];
     assert!(rt; gives(alloc, &["sort.pl", "lists.pl"], &files, 0, want)?);
     Ok(())
@@ -370,7 +368,11 @@ fn words_and_limits(rt: HostRuntime) -> Result<(), Fail> {
         (&["--rows", "007", "a.pl"], 0, rows),
         (&["--depth=2", "--domain=ground", "a.pl"], 0, rows),
         (&["--", "--x.pl"], 0, b"edit 0\nend\n"),
-        (&["--rows", "1", "a.pl"], 1, b"edit 0\nstopped rows 1\nend\n"),
+        (
+            &["--rows", "1", "a.pl"],
+            1,
+            b"edit 0\nstopped rows 1\nend\n",
+        ),
         (&["a.pl", "--rows=2"], 0, rows),
         (&["a.pl", "a.pl"], 3, b"refused 'a.pl' 1 duplicate_module\n"),
         (&["check.pl"], 8, b""),
@@ -380,8 +382,14 @@ fn words_and_limits(rt: HostRuntime) -> Result<(), Fail> {
     let files: [File<'_>; 4] = [
         ("a.pl", called.as_slice()),
         ("--x.pl", EMPTY),
-        ("check.pl", b":- module(m, []). :- check success p(X) => ground(X)."),
-        ("builtin.pl", b":- module(m, []). :- entry p(X). q(X) :- X = a. p(a)."),
+        (
+            "check.pl",
+            b":- module(m, []). :- check success p(X) => ground(X).",
+        ),
+        (
+            "builtin.pl",
+            b":- module(m, []). :- entry p(X). q(X) :- X = a. p(a).",
+        ),
     ];
     for (words, status, want) in cases {
         assert!(rt; gives(alloc, words, &files, status, want)?);
@@ -396,7 +404,15 @@ fn sizes_of_the_input(rt: HostRuntime) -> Result<(), Fail> {
     let files: [File<'_>; 2] = [("a.pl", EMPTY), ("long.pl", long.as_slice())];
     let most = ["a.pl"; 64];
     let over = ["a.pl"; 65];
-    assert!(rt; gives(alloc, &most, &files, 3, b"refused 'a.pl' 1 duplicate_module\n")?);
+    assert!(rt;
+        gives(
+            alloc,
+            &most,
+            &files,
+            3,
+            b"refused 'a.pl' 1 duplicate_module\n"
+        )?
+    );
     assert!(rt; gives(alloc, &over, &files, 4, b"")?);
     assert!(rt; gives(alloc, &["a.pl", "long.pl"], &files, 4, b"")?);
     assert!(rt; gives(alloc, &["long.pl"], &files, 4, b"")?);
@@ -423,7 +439,15 @@ fn a_chain_of_predicates(rt: HostRuntime) -> Result<(), Fail> {
     assert_eq!(rt; status, 0);
     assert_eq!(rt; bytes.len(), 6901);
     assert_eq!(rt; bytes.iter().filter(|byte| **byte == b'\n').count(), 202);
-    assert!(rt; gives(alloc, &["--rows", "199", "a.pl"], &files, 1, b"edit 0\nstopped rows 199\nend\n")?);
+    assert!(rt;
+        gives(
+            alloc,
+            &["--rows", "199", "a.pl"],
+            &files,
+            1,
+            b"edit 0\nstopped rows 199\nend\n"
+        )?
+    );
     Ok(())
 }
 
@@ -446,11 +470,20 @@ fn a_read_fails(rt: HostRuntime) -> Result<(), Fail> {
     let alloc = rt.alloc();
     for (failing_file, failing_script) in [(1, 9), (2, 9), (9, 1)] {
         let files: [File<'_>; 2] = [("a.pl", FACTS), ("b.pl", b":- module(n, []).")];
-        let mut library = MemoryLibrary::new(files_of(alloc, &files)?, vec![in alloc; failing_file]?);
+        let mut library = MemoryLibrary::new(
+            files_of(alloc, &files)?,
+            vec![in alloc; failing_file]?,
+        );
         let mut script = MemorySource::new(Vec::new(alloc), 1, vec![in alloc; failing_script]?);
         let mut sink = MemorySink::new(alloc, 100, 3, Vec::new(alloc))?;
         assert_eq!(rt;
-            status(alloc, &["a.pl", "b.pl"], &mut library, &mut script, &mut sink),
+            status(
+                alloc,
+                &["a.pl", "b.pl"],
+                &mut library,
+                &mut script,
+                &mut sink
+            ),
             5
         );
         assert_eq!(rt; sink.bytes().len(), 0);

@@ -1,4 +1,4 @@
-use Rattle.std.proofs.Common.{◌≡◌, ◌+◌, take, sym, ◌∙◌}
+use Rattle.std.proofs.Common.{◌∙◌}
 use Rattle.plai_rounds.specs.Names.{key_name, names_in, rows_of}
 use Rattle.plai_rounds.proofs.Reaching.{name_at_place}
 use Rattle.plai_rounds.proofs.LeastRows.{rows_more}

@@ -1,4 +1,4 @@
-use Rattle.std.proofs.Common.{◌≡◌, ◌≤◌, length, take}
+use Rattle.std.proofs.Common.{◌≡◌, take}
 use Rattle.plai_rounds.specs.Names.{names_in, rows_of}
 use Rattle.plai_rounds.specs.Output.{plain_rows}
 use Rattle.plai_rounds.proofs.output.plain_table.Given as goal

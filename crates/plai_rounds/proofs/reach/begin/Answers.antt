@@ -1,4 +1,4 @@
-use Rattle.std.proofs.Common.{◌≡◌, [], map, IfErr, sym, refl, ap, ◌∙◌, subst, arith, rules}
+use Rattle.std.proofs.Common.{map, IfErr, rules}
 use Rattle.plai_rounds.specs.Names.{key_name}
 use Rattle.plai_rounds.specs.Adding.{StopsAdding}
 use Rattle.plai_rounds.specs.Causes.{HasCause}

@@ -1,13 +1,10 @@
-use Rattle.std.proofs.Common.{◌≡◌, ◌≤◌, All, ◌+◌, map, take, sym, refl, ap, ◌∙◌, subst, arith, rules}
-use Rattle.std.proofs.lemmas.Grind.{common_steps}
+use Rattle.std.proofs.Common.{◌≡◌, ◌≤◌, All, ◌+◌, map, take, sym, ap, ◌∙◌, subst, arith}
 use Rattle.std.proofs.lemmas.List.{take_all}
 use Rattle.plai_theory.specs.Words.{IsIn}
-use Rattle.plai_terms.specs.declared.abs.Abs.{Abs}
 use Rattle.plai_terms.specs.declared.pred_key.PredKey.{PredKey}
 use Rattle.plai_domain.specs.declared.key.Key.{Key}
 use Rattle.plai_domain.specs.Instances.{speaks_within}
 use Rattle.plai_domain.specs.Conditions.{most_arguments}
-use Rattle.plai_clauses.specs.declared.entry.Entry.{Entry}
 use Rattle.plai_rounds.specs.Names.{key_name}
 use Rattle.plai_rounds.proofs.Lists.{in_at}
 use Rattle.plai_rounds.proofs.Reaching.{entry_pair, entries_more, key_is}

@@ -1,8 +1,4 @@
 use Rattle.std.proofs.Common.{◌≡◌, map, take}
-use Rattle.plai_theory.specs.Domain.{Name}
-use Rattle.plai_terms.specs.declared.abs.Abs.{Abs}
-use Rattle.plai_terms.specs.declared.pred_key.PredKey.{PredKey}
-use Rattle.plai_clauses.specs.declared.entry.Entry.{Entry}
 use Rattle.plai_rounds.specs.Names.{key_name}
 use Rattle.plai_rounds.proofs.Reaching.{entry_pair}
 use Rattle.plai_rounds.proofs.reach.entry_keys.Given as goal

@@ -1,4 +1,4 @@
-use Rattle.std.proofs.Common.{◌≡◌, ◌<◌, ◌≤◌, ◌+◌, length, sym, refl, ap, ◌∙◌, subst, arith, rules}
+use Rattle.std.proofs.Common.{◌≡◌, ◌≤◌, length, arith}
 use Rattle.plai_rounds.specs.Names.{names_in, rows_of}
 use Rattle.plai_rounds.proofs.Lists.{length_map}
 use Rattle.plai_rounds.proofs.Reaching.{begun, no_reach, named_more, named_all}

@@ -1,7 +1,6 @@
-use Rattle.std.proofs.Common.{◌≡◌, List, map, slice_get, Option, Some, IfErr, sym, refl, ap, ◌∙◌, subst, rules}
+use Rattle.std.proofs.Common.{map, IfErr, sym, refl, ap, subst, rules}
 use Rattle.std.specs.Option.{option_map}
 use Rattle.plai_theory.specs.Words.{IsIn}
-use Rattle.plai_clauses.specs.Program.{clauses_of}
 use Rattle.plai_rounds.specs.Names.{key_name, names_in, rows_of}
 use Rattle.plai_rounds.specs.Adding.{StopsAdding}
 use Rattle.plai_rounds.specs.Making.{TellsOver}

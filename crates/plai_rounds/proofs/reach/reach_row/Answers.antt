@@ -1,4 +1,4 @@
-use Rattle.std.proofs.Common.{◌≡◌, ◌<◌, ◌≤◌, ◌+◌, length, Some, slice_get, sym, refl, ap, ◌∙◌, subst, arith, rules}
+use Rattle.std.proofs.Common.{◌≡◌, ◌+◌, length, refl, ap, subst, arith}
 use Rattle.plai_theory.specs.Words.{IsIn}
 use Rattle.plai_clauses.specs.Program.{clauses_of}
 use Rattle.plai_rounds.specs.Names.{key_name, names_in, rows_of}

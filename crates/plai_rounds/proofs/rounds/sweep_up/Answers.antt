@@ -1,4 +1,4 @@
-use Rattle.std.proofs.Common.{◌≡◌, ◌<◌, ◌≤◌, ◌+◌, length, sym, refl, ap, ◌∙◌, subst, arith, rules}
+use Rattle.std.proofs.Common.{◌≡◌, ◌≤◌, length, sym, ap, ◌∙◌, subst, arith}
 use Rattle.plai_rounds.specs.Names.{rows_of}
 use Rattle.plai_rounds.specs.Making.{IsStep}
 use Rattle.plai_rounds.proofs.Lists.{length_map}
