@@ -3,3 +3,4 @@ pub mod Passes
 pub mod Formed
 pub mod Targets
 pub mod Imported
+pub mod Counted
