@@ -5,4 +5,4 @@ pub mod Program
 pub mod WellFormed
 pub mod Codes
 pub mod ByModule
-pub mod Uses
+pub mod Invariant

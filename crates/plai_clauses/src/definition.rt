@@ -1,10 +1,9 @@
 //! The clauses of the predicates.
 ghost use Rattle.std.specs.Prelude.{◌≡◌, ◌<◌, ◌≤◌, ◌-◌, ◌^◌, ◌++◌, [], ◌∷◌, length, min, IfOk, OnOk, OnErr};
-ghost use Rattle.std.specs.List.{list_any, remove, sum_by};
+ghost use Rattle.std.specs.List.{remove, sum_by};
 ghost use Rattle.plai_clauses.specs.Program.{clauses_in, place_in, with_clause, changed_in};
-ghost use Rattle.plai_clauses.specs.Uses.{is_builtin_target, clause_calls_builtins};
 
-use crate::clause::{Clause, Target};
+use crate::clause::Clause;
 use plai_terms::PredKey;
 use std::alloc::{AllocError, Global};
 use std::marker::Model;
@@ -192,37 +191,4 @@ pub(crate) fn count_clauses(definitions: &[Definition]) -> u64
         count = count.saturating_add(definition.clauses.as_slice().len() as u64);
     }
     count
-}
-
-/// Whether a target is a builtin.
-fn is_builtin_target(target: &Target) -> bool
-    ensures { result ≡ is_builtin_target target.now }
-{
-    match target {
-        Target::Pred(_) => false,
-        Target::Builtin => true,
-    }
-}
-
-/// Whether some literal of the clause calls a builtin.
-fn clause_calls_builtins(clause: &Clause) -> bool
-    ensures { result ≡ clause_calls_builtins clause.now }
-{
-    let body = clause.body.as_slice();
-    body.iter()
-        .any(|literal| is_builtin_target(&literal.target))
-}
-
-/// Whether some literal of these clauses calls a builtin.
-fn some_clause_calls_builtins(clauses: &[Clause]) -> bool
-    ensures { result ≡ list_any clause_calls_builtins clauses.now }
-{
-    clauses.iter().any(|clause| clause_calls_builtins(clause))
-}
-
-/// Whether some literal calls a builtin.
-pub(crate) fn calls_builtins(definitions: &[Definition]) -> bool
-    ensures { result ≡ list_any (λ d. list_any clause_calls_builtins d.clauses) definitions.now }
-{
-    definitions.iter().any(|definition| some_clause_calls_builtins(definition.clauses.as_slice()))
 }

@@ -81,12 +81,7 @@ pub fn exporter<'a>(list: &'a [(Name, u32, Name)], name: &Name, arity: u32) -> O
 
 /// The module whose predicate of that name and number of arguments a module with these imports speaks of: the exporting
 /// one where it imports the key, else itself. It takes no memory.
-pub fn spoken_of<'a>(
-    module: &'a Name,
-    imports: &'a Imports,
-    name: &Name,
-    arity: u32,
-) -> &'a Name
+pub fn spoken_of<'a>(module: &'a Name, imports: &'a Imports, name: &Name, arity: u32) -> &'a Name
     ensures { result.now ≡ spoken_of «module».entry.now imports.entry.now name.now arity }
 {
     match exporter(imports.as_slice(), name, arity) {

@@ -1,5 +1,5 @@
 -- Names added one by one.
-use Rattle.std.proofs.Common.{◌≡◌, ℕ, ◌+◌, ◌<◌, ◌≤◌, Bool, true, false, List, [], ◌∷◌, ◌++◌, map, length, Option, Some, None, sym, refl, ap, ◌∙◌, subst, inl, inr, arith}
+use Rattle.std.proofs.Common.{◌≡◌, ℕ, ◌+◌, ◌<◌, ◌≤◌, Bool, true, false, List, [], ◌∷◌, ◌++◌, map, length, Option, None, sym, ap, ◌∙◌, subst, arith}
 use Rattle.plai_theory.specs.Words.{IsIn}
 use Rattle.plai_theory.specs.Domain.{Name}
 use Rattle.plai_theory.proofs.Rounds.{push_in}
@@ -7,7 +7,7 @@ use Rattle.plai_terms.specs.declared.abs.Abs.{Abs}
 use Rattle.plai_terms.specs.declared.pred_key.PredKey.{PredKey}
 use Rattle.plai_domain.specs.declared.key.Key.{Key}
 use Rattle.plai_rounds.specs.Names.{key_name, names_in}
-use Rattle.plai_rounds.specs.Adding.{IsAdded, HasNoRoom, Adds, Same, Next, AddsAll, IsFull, StopsAdding}
+use Rattle.plai_rounds.specs.Adding.{IsAdded, HasNoRoom, Adds, Same, Next, StopsAdding}
 use Rattle.plai_rounds.specs.declared.analyse_fail.AnalyseFail.{AnalyseFail}
 use Rattle.plai_rounds.specs.declared.analyse_fail.AnalyseFail.TheVariants.{Memory, Rows, Groups}
 use Rattle.plai_rounds.proofs.Lists.{in_left, in_last, map_push, length_push}

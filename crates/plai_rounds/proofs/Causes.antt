@@ -1,20 +1,17 @@
 -- Why rounds stop: too many names, or a set of too many groups.
-use Rattle.std.proofs.Common.{◌≡◌, ℕ, ◌+◌, ◌≤◌, List, [], ◌∷◌, ◌++◌, map, length, Option, Some, None, sym, refl, ap, ◌∙◌, subst, inl, inr, arith}
+use Rattle.std.proofs.Common.{◌≡◌, ℕ, ◌+◌, ◌≤◌, List, [], ◌∷◌, ◌++◌, map, length, Option, None, refl, subst, inl, inr, arith}
 use Rattle.plai_theory.specs.Words.{IsIn, AreDistinct}
 use Rattle.plai_theory.specs.Domain.{Domain, Program, Name}
 use Rattle.plai_theory.specs.Domain as theory
 use Rattle.plai_theory.specs.LeastTable.{Row}
-use Rattle.plai_theory.specs.Tables.{source_of, HasName, IsDistinct}
-use Rattle.plai_theory.specs.Limits.{IsOverAt}
+use Rattle.plai_theory.specs.Tables.{source_of}
 use Rattle.plai_theory.specs.Rounds.{IsAsked, IsMade, Add}
-use Rattle.plai_theory.specs.Claims.{HasAbove}
 use Rattle.plai_theory.proofs.Rounds.{made_low, from_below}
 use Rattle.plai_theory.proofs.Near.{IsNear}
 use Rattle.plai_theory.proofs.Count.{near_row}
 use Rattle.plai_theory.proofs.Over.{near_over}
 use Rattle.plai_terms.specs.declared.abs.Abs.{Abs}
 use Rattle.plai_terms.specs.declared.pred_key.PredKey.{PredKey}
-use Rattle.plai_terms.specs.declared.plain_row.PlainRow.{PlainRow}
 use Rattle.plai_domain.specs.declared.key.Key.{Key}
 use Rattle.plai_domain.specs.Plain.{PlainDomain}
 use Rattle.plai_domain.specs.Laws.{IsLawful}
@@ -22,17 +19,16 @@ use Rattle.plai_clauses.specs.declared.clause.Clause.{Clause}
 use Rattle.plai_clauses.specs.Program.{ProgramView, clauses_of}
 use Rattle.plai_clauses.specs.WellFormed.{IsWellFormed}
 use Rattle.plai_eval.specs.Meaning.{as_domain, as_limits, as_program}
-use Rattle.plai_eval.specs.LeastTable.{row_of, before, IsLeastTable}
-use Rattle.plai_eval.specs.Stops.{IsOver, HaveBelow}
+use Rattle.plai_eval.specs.LeastTable.{row_of, before}
 use Rattle.plai_eval.proofs.One.{strict}
 use Rattle.plai_eval.proofs.Lawful.{lawful_at, limits_at}
 use Rattle.plai_rounds.specs.declared.analyse_fail.AnalyseFail.{AnalyseFail}
 use Rattle.plai_rounds.specs.declared.analyse_fail.AnalyseFail.TheVariants.{Memory, Rows, Groups}
-use Rattle.plai_rounds.specs.Names.{key_name, names_in, rows_of, names_of}
-use Rattle.plai_rounds.specs.Adding.{Adds, IsFull, StopsAdding}
+use Rattle.plai_rounds.specs.Names.{rows_of, names_of}
+use Rattle.plai_rounds.specs.Adding.{IsFull, StopsAdding}
 use Rattle.plai_rounds.specs.Making.{IsMaking, TellsOver}
 use Rattle.plai_rounds.specs.Causes.{AreTooMany, HasCause}
-use Rattle.plai_rounds.proofs.Lists.{in_map, length_map}
+use Rattle.plai_rounds.proofs.Lists.{length_map}
 use Rattle.plai_rounds.proofs.Making.{names_same, has_name, names_distinct, adds_making}
 
 module _ (p : PlainDomain) (laws : IsLawful p) (program : ProgramView) (good : IsWellFormed program) (limit : ℕ) where

@@ -1,12 +1,12 @@
 -- Where a round changes nothing, the rows that calls reach are the least table.
-use Rattle.std.proofs.Common.{◌≡◌, ℕ, ◌≤◌, List, map, length, Option, Some, None, sym, refl, ap, ◌∙◌, subst, inl, inr, arith}
-use Rattle.plai_theory.specs.Words.{IsIn, UpTo}
+use Rattle.std.proofs.Common.{◌≡◌, ℕ, List, Option, refl, subst}
+use Rattle.plai_theory.specs.Words.{IsIn}
 use Rattle.plai_theory.specs.Domain.{Name}
 use Rattle.plai_theory.specs.Domain as theory
-use Rattle.plai_theory.specs.Evaluation.{answer_of, calls_of, join_of}
-use Rattle.plai_theory.specs.LeastTable.{Row, IsTableOf}
+use Rattle.plai_theory.specs.Evaluation.{answer_of, join_of}
+use Rattle.plai_theory.specs.LeastTable.{Row}
 use Rattle.plai_theory.specs.Stages.{Reaches, IsSettled}
-use Rattle.plai_theory.specs.Tables.{source_of, HasName, IsClosed}
+use Rattle.plai_theory.specs.Tables.{source_of, IsClosed}
 use Rattle.plai_theory.proofs.Tables.{lookup_row, closed_at, reach_rows}
 use Rattle.plai_theory.proofs.Rounds.{made_low, from_below, unchanged_covers}
 use Rattle.plai_theory.proofs.Over.{over_settled}

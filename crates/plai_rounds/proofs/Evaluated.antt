@@ -1,5 +1,5 @@
 -- An evaluation as the theory sees it.
-use Rattle.std.proofs.Common.{◌≡◌, ℕ, List, [], ◌∷◌, map, Option, Some, None, IsSome, sym, refl, ap, ◌∙◌, subst}
+use Rattle.std.proofs.Common.{◌≡◌, ℕ, List, [], ◌∷◌, map, Some, None, IsSome, sym, refl, ap, ◌∙◌, subst}
 use Rattle.plai_theory.specs.Domain.{Name}
 use Rattle.plai_theory.specs.Tables.{source_of}
 use Rattle.plai_theory.specs.LeastTable.{Row}

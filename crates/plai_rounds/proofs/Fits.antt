@@ -1,17 +1,15 @@
 -- What rounds make are values, and so is what is evaluated under it.
-use Rattle.std.proofs.Common.{◌≡◌, ℕ, suc, List, Option, Some, None, sym, refl, ap, ◌∙◌, subst}
+use Rattle.std.proofs.Common.{List}
 use Rattle.plai_theory.specs.Words.{IsIn, UpTo}
-use Rattle.plai_theory.specs.Domain.{Domain, Program, Name, IsLawful}
-use Rattle.plai_theory.specs.Evaluation.{NameOf, answer_of}
-use Rattle.plai_theory.specs.Stages.{stage, IsFromBelow}
+use Rattle.plai_theory.specs.Domain.{Domain, Program, IsLawful}
+use Rattle.plai_theory.specs.Evaluation.{answer_of}
+use Rattle.plai_theory.specs.Stages.{stage}
 use Rattle.plai_theory.specs.LeastTable.{Row}
 use Rattle.plai_theory.specs.Tables.{source_of}
 use Rattle.plai_theory.specs.Rounds.{IsMade}
 use Rattle.plai_theory.proofs.Stages.{left_at}
 use Rattle.plai_theory.proofs.Near.{near_value, answer_low}
 use Rattle.plai_theory.proofs.Rounds.{AllLow, made_low, from_below, below_at}
-use Rattle.plai_terms.specs.declared.abs.Abs.{Abs}
-use Rattle.plai_terms.specs.declared.pred_key.PredKey.{PredKey}
 use Rattle.plai_domain.specs.Plain.{PlainDomain}
 use Rattle.plai_domain.specs.Laws as domain
 use Rattle.plai_clauses.specs.Program.{ProgramView}

@@ -10,3 +10,6 @@ pub mod Causes
 pub mod Ends
 pub mod Working
 pub mod Sweeping
+pub mod Reaching
+pub mod Narrow
+pub mod LeastRows

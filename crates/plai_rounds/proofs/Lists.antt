@@ -1,5 +1,5 @@
 -- Members and places of lists.
-use Rattle.std.proofs.Common.{◌≡◌, ℕ, zero, suc, ◌+◌, ◌<◌, List, [], ◌∷◌, ◌++◌, map, length, get_or, slice_get, Option, Some, None, Result, Ok, Err, IfErr, Bor, sym, refl, ap, ◌∙◌, subst, inl, inr, arith}
+use Rattle.std.proofs.Common.{◌≡◌, ℕ, zero, suc, ◌+◌, ◌<◌, List, [], ◌∷◌, ◌++◌, map, length, get_or, slice_get, Option, Some, None, Result, Ok, Err, IfErr, IsErrAnd, Bor, sym, refl, ap, inl, inr, arith}
 use Rattle.std.specs.Option.{option_map, option_copied}
 use Rattle.plai_theory.specs.Words.{IsIn}
 
@@ -84,3 +84,7 @@ if_err P Q (Err e) h k = k e h
 pub copied_map : {A B : Type 0} (f : A → B) (o : Option (Bor A)) → option_map (λ (b : Bor A). f b.now) o ≡ option_map f (option_copied o)
 copied_map f None = refl
 copied_map f (Some b) = refl
+
+pub if_err_and : {T E : Type 0} (P Q : E → Type 0) (r : Result T E) → IsErrAnd r P → ((e : E) → P e → Q e) → IfErr r Q
+if_err_and P Q (Ok x) h k = absurd h
+if_err_and P Q (Err e) h k = k e h

@@ -1,5 +1,5 @@
 -- Rows in the making stay so where an answer is raised by an evaluation.
-use Rattle.std.proofs.Common.{◌≡◌, ◌≢◌, ℕ, zero, suc, ◌+◌, ◌-◌, ◌*◌, ◌<◌, ◌≤◌, true, false, List, [], ◌∷◌, ◌++◌, map, length, slice_get, Option, Some, None, sym, refl, ap, ◌∙◌, subst, inl, inr, arith}
+use Rattle.std.proofs.Common.{◌≡◌, ℕ, zero, suc, ◌+◌, ◌<◌, ◌≤◌, true, false, List, [], ◌∷◌, map, length, slice_get, Option, Some, None, sym, refl, ap, ◌∙◌, subst, inl, inr, arith}
 use Rattle.std.specs.Option.{option_map}
 use Rattle.indexmap.specs.IndexMap.{set_value_at}
 use Rattle.plai_theory.specs.Words.{IsIn, UpTo}
@@ -15,7 +15,6 @@ use Rattle.plai_terms.specs.declared.abs.Abs.{Abs}
 use Rattle.plai_terms.specs.declared.pred_key.PredKey.{PredKey}
 use Rattle.plai_domain.specs.declared.key.Key.{Key}
 use Rattle.plai_domain.specs.Plain.{PlainDomain}
-use Rattle.plai_domain.specs.Conditions.{IsValue}
 use Rattle.plai_domain.specs.Laws.{IsLawful}
 use Rattle.plai_clauses.specs.declared.clause.Clause.{Clause}
 use Rattle.plai_clauses.specs.Program.{ProgramView, clauses_of}
@@ -25,8 +24,8 @@ use Rattle.plai_eval.proofs.Lawful.{lawful_at}
 use Rattle.plai_rounds.specs.declared.change.Change.{Change}
 use Rattle.plai_rounds.specs.declared.change.Change.TheVariants.{Nothing, Grown, Opened}
 use Rattle.plai_rounds.specs.Names.{key_name, row_at, rows_of, names_of}
-use Rattle.plai_rounds.specs.Raising.{IsSet, Raises}
-use Rattle.plai_rounds.specs.Making.{IsMaking, total, room, ranks, Moves, IsStep}
+use Rattle.plai_rounds.specs.Raising.{Raises}
+use Rattle.plai_rounds.specs.Making.{IsMaking, total, room, ranks, IsStep}
 use Rattle.plai_rounds.proofs.Lists.{get_in, get_map, length_map}
 
 -- one row changes

@@ -1,5 +1,5 @@
 -- What is quiet so far, one more clause, and one more row.
-use Rattle.std.proofs.Common.{◌≡◌, ℕ, ◌+◌, ◌<◌, ◌≤◌, List, length, Option, Some, None, slice_get, nat_eq, eqb-true, true, false, sym, refl, ap, ◌∙◌, subst, arith}
+use Rattle.std.proofs.Common.{◌≡◌, ℕ, ◌+◌, ◌<◌, ◌≤◌, List, length, Some, slice_get, nat_eq, eqb-true, false, sym, ap, ◌∙◌, subst, arith}
 use Rattle.std.proofs.lemmas.Bool.Decides.{nat_tests}
 use Rattle.plai_theory.specs.Words.{IsIn}
 use Rattle.plai_theory.specs.Domain.{Name}
@@ -12,7 +12,7 @@ use Rattle.plai_clauses.specs.declared.clause.Clause.{Clause}
 use Rattle.plai_clauses.specs.Program.{ProgramView, clauses_of}
 use Rattle.plai_eval.specs.Meaning.{as_domain}
 use Rattle.plai_rounds.specs.declared.change.Change.{Change}
-use Rattle.plai_rounds.specs.declared.change.Change.TheVariants.{Nothing, Grown, Opened}
+use Rattle.plai_rounds.specs.declared.change.Change.TheVariants.{Nothing}
 use Rattle.plai_rounds.specs.Names.{names_of}
 use Rattle.plai_rounds.specs.Changes.{both_of}
 use Rattle.plai_rounds.specs.Making.{IsQuiet, IsQuietAt, AreQuiet, IsStep, IsAt}

@@ -1,10 +1,10 @@
 -- The evaluation of a clause of a row, worked into the rows.
-use Rattle.std.proofs.Common.{◌≡◌, ℕ, zero, suc, ◌+◌, ◌<◌, ◌≤◌, Bool, true, false, List, [], ◌∷◌, ◌++◌, map, length, slice_get, Option, Some, None, sym, refl, ap, ◌∙◌, subst, inl, inr, arith}
+use Rattle.std.proofs.Common.{◌≡◌, ℕ, zero, suc, ◌<◌, ◌≤◌, Bool, true, false, List, [], ◌∷◌, map, length, slice_get, Option, Some, None, sym, refl, ap, ◌∙◌, subst, inr, arith}
 use Rattle.std.specs.Option.{option_map}
 use Rattle.plai_theory.specs.Words.{IsIn, UpTo}
 use Rattle.plai_theory.specs.Domain.{Name}
 use Rattle.plai_theory.specs.Domain as theory
-use Rattle.plai_theory.specs.Evaluation.{answer_of, calls_of, join_of}
+use Rattle.plai_theory.specs.Evaluation.{answer_of, join_of}
 use Rattle.plai_theory.specs.LeastTable.{Row}
 use Rattle.plai_theory.specs.Tables.{source_of}
 use Rattle.plai_theory.specs.Rounds.{IsAsked, IsMade}
@@ -22,12 +22,12 @@ use Rattle.plai_clauses.specs.WellFormed.{IsWellFormed}
 use Rattle.plai_eval.specs.Meaning.{as_domain, as_program}
 use Rattle.plai_eval.proofs.Lawful.{lawful_at}
 use Rattle.plai_rounds.specs.declared.change.Change.{Change}
-use Rattle.plai_rounds.specs.declared.change.Change.TheVariants.{Nothing, Grown, Opened}
-use Rattle.plai_rounds.specs.Names.{key_name, names_in, row_at, rows_of, names_of}
+use Rattle.plai_rounds.specs.declared.change.Change.TheVariants.{Nothing}
+use Rattle.plai_rounds.specs.Names.{key_name, names_in, row_at, rows_of}
 use Rattle.plai_rounds.specs.Adding.{Adds, Same, Next, AddsAll}
 use Rattle.plai_rounds.specs.Raising.{Raises}
 use Rattle.plai_rounds.specs.Changes.{both_of, change_of}
-use Rattle.plai_rounds.specs.Making.{IsMaking, IsEvaluation, IsQuiet, room, Moves, IsStep, IsAt}
+use Rattle.plai_rounds.specs.Making.{IsMaking, IsEvaluation, IsQuiet, Moves, IsStep, IsAt}
 use Rattle.plai_rounds.proofs.Lists.{get_in, get_map, get_left, length_map}
 use Rattle.plai_rounds.proofs.Fits.{row_fits, answer_fits}
 use Rattle.plai_rounds.proofs.Making.{names_same, has_name, adds_keeps, adds_making, adds_room}

@@ -5,3 +5,4 @@ pub mod Changes
 pub mod Making
 pub mod Reaching
 pub mod Causes
+pub mod Output

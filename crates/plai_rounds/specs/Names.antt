@@ -1,5 +1,5 @@
 -- What the entries of a table over a domain's own values stand for: rows, with a name and an answer or none.
-use Rattle.std.specs.Prelude.{ℕ, List, map, Option}
+use Rattle.std.specs.Prelude.{List, map, Option}
 use Rattle.std.specs.Option.{option_map}
 use Rattle.plai_theory.specs.Domain.{Name}
 use Rattle.plai_theory.specs.LeastTable.{Row}

@@ -1,6 +1,5 @@
 -- An answer of a row raised by the join.
 use Rattle.std.specs.Prelude.{◌≡◌, ◌≢◌, ℕ, List, Option, Some, None}
-use Rattle.std.specs.Option.{option_map}
 use Rattle.indexmap.specs.IndexMap.{set_value_at}
 use Rattle.plai_terms.specs.declared.abs.Abs.{Abs}
 use Rattle.plai_domain.specs.declared.key.Key.{Key}

@@ -4,11 +4,15 @@
 #![tactic(auto)]
 
 mod analyse_fail;
+mod analysis;
 mod change;
 mod evaluation;
+mod output;
 mod present;
+mod reach;
 mod rounds;
 mod rows;
 mod task;
 
 pub use analyse_fail::AnalyseFail;
+pub use analysis::analyse;

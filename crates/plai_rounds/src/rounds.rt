@@ -45,8 +45,16 @@ fn work_clause<D: Domain, W: Work, L: Ledger>(
     ensures causes { IfErr result (HasCause (D.plain task.now.domain.now) task.now.program.now task.now.limit) }
 {
     let name = name_at::<D>(rows, index);
-    let Evaluated { answer, calls } =
-        evaluate_clause(task.alloc, task.domain, rows, name, clause, number, work, steps)?;
+    let Evaluated { answer, calls } = evaluate_clause(
+        task.alloc,
+        task.domain,
+        rows,
+        name,
+        clause,
+        number,
+        work,
+        steps,
+    )?;
     let added = add_all::<D>(rows, calls.into_vec(), task.limit)?;
     let grown = raise(task.alloc, task.domain, rows, index, answer, steps)?;
     Ok(Change::of_rows(added).and(grown))

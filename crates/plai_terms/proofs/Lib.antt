@@ -1,6 +1,12 @@
 pub mod AtomTexts
+pub mod General
 pub mod GroupOrder
 pub mod Joined
+pub mod Loop
+pub mod MoveAt
+pub mod MoveLaws
+pub mod Outcomes
+pub mod Pairs
 pub mod PatternTexts
 pub mod Reading
 pub mod RowOrders
@@ -9,8 +15,12 @@ pub mod SameNames
 pub mod SameTerms
 pub mod Shapes
 pub mod Skeletons
+pub mod Solutions
+pub mod Solved
 pub mod Sorted
 pub mod Substs
 pub mod Tables
 pub mod TermTexts
 pub mod Terms
+pub mod Total
+pub mod Under

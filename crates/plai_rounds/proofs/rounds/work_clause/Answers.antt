@@ -1,7 +1,5 @@
-use Rattle.std.proofs.Common.{◌≡◌, List, map, slice_get, Option, Some, IfErr, sym, refl, ap, ◌∙◌, subst, rules}
+use Rattle.std.proofs.Common.{◌≡◌, map, Some, IfErr, sym, refl, ap, ◌∙◌, subst, rules}
 use Rattle.std.specs.Option.{option_map}
-use Rattle.plai_theory.specs.Words.{IsIn}
-use Rattle.plai_clauses.specs.Program.{clauses_of}
 use Rattle.plai_eval.specs.Meaning.{as_domain, as_program}
 use Rattle.plai_eval.proofs.Lawful.{lawful_at}
 use Rattle.plai_rounds.specs.Names.{key_name, row_at, rows_of}

@@ -1,9 +1,8 @@
-use Rattle.std.proofs.Common.{◌≡◌, ◌<◌, ◌≤◌, ◌+◌, length, Some, slice_get, sym, refl, ap, ◌∙◌, subst, arith, rules}
+use Rattle.std.proofs.Common.{◌≡◌, ◌+◌, length, sym, ap, ◌∙◌, subst, arith}
 use Rattle.plai_theory.specs.Words.{IsIn}
 use Rattle.plai_clauses.specs.Program.{clauses_of}
 use Rattle.plai_rounds.specs.Names.{key_name, rows_of}
-use Rattle.plai_rounds.specs.Making.{IsStep, IsQuiet}
-use Rattle.plai_rounds.specs.Changes.{both_of}
+use Rattle.plai_rounds.specs.Making.{IsStep}
 use Rattle.plai_rounds.proofs.Lists.{in_at, get_or_get, length_map}
 use Rattle.plai_rounds.proofs.Steps.{step_then, step_longer}
 use Rattle.plai_rounds.proofs.Working.{entry_at, at_name, one_name}

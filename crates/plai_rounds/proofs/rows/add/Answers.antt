@@ -1,4 +1,4 @@
-use Rattle.std.proofs.Common.{◌≡◌, is_some, true, false, refl, sym, ap, ◌∙◌, arith, rules}
+use Rattle.std.proofs.Common.{◌≡◌, is_some, true, false, refl, sym, ◌∙◌, arith, rules}
 use Rattle.std.specs.Map.{lookup}
 use Rattle.plai_rounds.proofs.Lookup.{same_key, found, absent, insert_last}
 use Rattle.plai_rounds.proofs.rows.add.Goals as goal

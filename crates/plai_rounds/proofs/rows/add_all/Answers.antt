@@ -1,9 +1,8 @@
-use Rattle.std.proofs.Common.{◌≡◌, ◌<◌, ◌≤◌, true, false, map, length, get_or, IfErr, refl, sym, ap, ◌∙◌, subst, arith, rules}
-use Rattle.std.proofs.lemmas.Grind.{common_steps}
+use Rattle.std.proofs.Common.{◌≡◌, ◌<◌, ◌≤◌, false, map, length, IfErr, refl, sym, ◌∙◌, subst, arith, rules}
 use Rattle.std.proofs.lemmas.Iterator.Adapters.{YieldsList-from_vec}
 use Rattle.std.proofs.lemmas.Iterator.Consumers.{YieldsList-turn, YieldsList-end}
 use Rattle.plai_theory.specs.Words.{IsIn}
-use Rattle.plai_rounds.specs.Names.{key_name, names_in}
+use Rattle.plai_rounds.specs.Names.{key_name}
 use Rattle.plai_rounds.specs.Adding.{IsAdded, HasNoRoom, Same, StopsAdding}
 use Rattle.plai_rounds.proofs.Lists.{in_at, in_map, map_same, if_err}
 use Rattle.plai_rounds.proofs.Adding.{adds_one, adds_longer, all_more, longer, stops}
