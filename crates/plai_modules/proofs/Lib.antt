@@ -4,3 +4,4 @@ pub mod Formed
 pub mod Targets
 pub mod Imported
 pub mod Counted
+pub mod There
