@@ -1,7 +1,8 @@
-ghost use Rattle.std.specs.Prelude.{◌≤◌, length, IfOk, IfErr, OnOk};
+ghost use Rattle.std.specs.Prelude.{◌≤◌, All, length, IfOk, IfErr, OnOk};
 ghost use Rattle.plai_clauses.specs.WellFormed.{IsWellFormed};
 ghost use Rattle.plai_eval.specs.LeastTable.{IsLeastTable};
 ghost use Rattle.plai_eval.specs.Stops.{IsOver};
+ghost use Rattle.plai_render.specs.Order.{IsNarrow};
 ghost use Rattle.plai_rounds.specs.Causes.{HasCause};
 
 use crate::analyse_fail::AnalyseFail;
@@ -21,7 +22,7 @@ use std::sync::ledger::Ledger;
 ///
 /// `Rows` names the limit, and comes only where more names than the limit lie at or below names of the least table, each of
 /// the same predicate; so a table has at most as many rows as the limit says. `Groups` comes only where an evaluation of
-/// the program forms a set of more than 65,536 groups, and a table only where none does.
+/// the program forms a set of more than 65,536 groups, names such an evaluation, and a table comes only where none does.
 pub fn analyse<D: Domain, W: Work, L: Ledger>(
     alloc: Global,
     domain: &D,
@@ -32,6 +33,7 @@ pub fn analyse<D: Domain, W: Work, L: Ledger>(
 ) -> Result<Vec<PlainRow>, AnalyseFail>
     requires { IsWellFormed program.now }
     ensures table { IfOk result (λ table. IsLeastTable (D.plain domain.now) program.now table.items) }
+    ensures narrow { IfOk result (λ table. All IsNarrow table.items) }
     ensures within { IfOk result (λ table. length table.items ≤ limit) }
     ensures not_over { OnOk result (¬ IsOver (D.plain domain.now) program.now) }
     ensures causes { IfErr result (HasCause (D.plain domain.now) program.now limit) }
