@@ -22,7 +22,7 @@ use std::sync::ledger::Ledger;
 ///
 /// `Rows` names the limit, and comes only where more names than the limit lie at or below names of the least table, each of
 /// the same predicate; so a table has at most as many rows as the limit says. `Groups` comes only where an evaluation of
-/// the program forms a set of more than 65,536 groups, and a table only where none does.
+/// the program forms a set of more than 65,536 groups, names such an evaluation, and a table comes only where none does.
 pub fn analyse<D: Domain, W: Work, L: Ledger>(
     alloc: Global,
     domain: &D,
