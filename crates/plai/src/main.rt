@@ -1,24 +1,14 @@
-//! An incremental abstract interpreter for Prolog (Muthukumar and Hermenegildo 1992).
+//! An incremental abstract interpreter for Prolog (Muthukumar and Hermenegildo 1992): the program, over the system's files
+//! and streams.
 #![tactic(auto)]
 
-ghost use Rattle.std.specs.Prelude.{◌≡◌, ◌<◌, ◌⊎◌, None, IfOk, map, string_bytes};
-ghost use Rattle.plai.specs.Ending.{IsStatus};
-ghost use Rattle.plai.specs.Words.{named_file, texts};
+ghost use Rattle.std.specs.Prelude.{◌≡◌, ◌<◌, None, IfOk, map, string_bytes};
+ghost use Rattle.plai_words.specs.Command.{settings_of, texts};
+ghost use Rattle.plai_top.specs.Ending.{EndsByWords, IsStatus};
 
-mod answers;
-mod input;
-mod rows;
-mod stop;
-mod table;
-#[cfg(test)]
-mod tests;
-mod top;
-mod words;
-
-use crate::stop::Stop;
-use crate::top::run;
 use plai_base::{FileLibrary, InputSource, OutputSink, Steps};
 use plai_domain::Tally;
+use plai_top::{Stop, run};
 use std::alloc::{AllocError, Global};
 use std::env::Env;
 use std::marker::Brand;
@@ -57,8 +47,8 @@ fn start<L: Ledger, R: Env + Files + Input + Print + AllocGlobal>(
     requires parts { blank.parts ≡ L.parts }
     requires some { 0 < blank.parts }
     ensures known { IfOk result IsStatus }
-    ensures refused { IfOk result (λ status. named_file (map string_bytes words.now) ≡ None → (status ≡ 2) ⊎ (status ≡ 7)) }
-    ensures command { IfOk result (λ status. status ≡ 2 → named_file (map string_bytes words.now) ≡ None) }
+    ensures refused { IfOk result (λ status. EndsByWords (map string_bytes words.now) status) }
+    ensures command { IfOk result (λ status. status ≡ 2 → settings_of (map string_bytes words.now) ≡ None) }
 {
     let words = texts_of(rt.alloc(), words)?;
     let mut steps = Steps::<L>::new(blank);
@@ -73,6 +63,7 @@ fn start<L: Ledger, R: Env + Files + Input + Print + AllocGlobal>(
     ))
 }
 
+/// Words that aren't text form no command.
 fn main(rt: HostRuntime) -> ExitCode {
     let status = match words_of(&rt) {
         Ok(words) => match start::<Brand, HostRuntime>(&rt, words.as_slice(), Blank::new(1)) {

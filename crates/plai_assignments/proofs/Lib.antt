@@ -12,3 +12,4 @@ pub mod Refine
 pub mod Sound
 pub mod Soundness
 pub mod Lawful
+pub mod Printed

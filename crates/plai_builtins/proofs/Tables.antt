@@ -1,5 +1,5 @@
 -- What holds of each row of the table of actions holds of what is looked up.
-use Rattle.std.proofs.Common.{◌≡◌, ℕ, ◌≤◌, ◌&&◌, true, false, nat_eq, Bool, lit≤, lit<, eqb-true, List, [], ◌∷◌, length, refl, subst, inl, inr}
+use Rattle.std.proofs.Common.{◌≡◌, ℕ, ◌≤◌, ◌&&◌, true, false, nat_eq, Bool, lit≤, lit<, eqb-true, List, [], ◌∷◌, length, map, refl, subst, inl, inr, arith}
 use Rattle.std.specs.Cmp.Lexicographic.{pointwise}
 use Rattle.plai_theory.specs.Words.{IsIn}
 use Rattle.plai_theory.proofs.Options.{by_test}
@@ -7,6 +7,7 @@ use Rattle.plai_domain.specs.declared.action.Action.{Action}
 use Rattle.plai_domain.specs.Instances.{acts_within}
 use Rattle.plai_clauses.specs.Builtins.{is_key, builtins, is_builtin_key}
 use Rattle.plai_builtins.specs.Actions.{Acting, table, actions_in, actions_of}
+use Rattle.plai_builtins.specs.Listed.{listed, small, row_in}
 
 -- each action's numbers are those of so many arguments
 abbrev AllWithin : ℕ → List Action → Type 0
@@ -93,13 +94,13 @@ sound = (
   ),
 )
 
-row_in : (rows : List Acting) → AreSoundRows rows → (a : Acting) → IsIn a rows → IsSoundRow a
-row_in [] h a i = absurd i
-row_in (b ∷ rows) h a (inl e) = subst IsSoundRow e h.0
-row_in (b ∷ rows) h a (inr i) = row_in rows h.1 a i
+sound_row : (rows : List Acting) → AreSoundRows rows → (a : Acting) → IsIn a rows → IsSoundRow a
+sound_row [] h a i = absurd i
+sound_row (b ∷ rows) h a (inl e) = subst IsSoundRow e h.0
+sound_row (b ∷ rows) h a (inr i) = sound_row rows h.1 a i
 
 pub key_of_row : (a : Acting) → IsIn a table → is_builtin_key a.name a.arity ≡ true
-key_of_row a i = (row_in table sound a i).key
+key_of_row a i = (sound_row table sound a i).key
 
 action_in : (arity : ℕ) (xs : List Action) → AllWithin arity xs → (x : Action) → IsIn x xs → acts_within arity x
 action_in arity [] h x i = absurd i
@@ -118,3 +119,19 @@ actions_within name arity x i = action_in arity (actions_of name arity) (looked_
 
 pub actions_few : (name : List ℕ) (arity : ℕ) → length (actions_of name arity) ≤ 3
 actions_few name arity = (looked_up table sound name arity).1
+
+-- small lists
+
+pub row_in-small : (rows : List Acting) (name : List ℕ) (arity : ℕ) → row_in (map (λ a. (a.name, a.arity, small a.actions)) rows) name arity ≡ small (actions_in rows name arity)
+row_in-small [] name arity = refl
+row_in-small (a ∷ rows) name arity = by_test (is_key name arity (a.name, a.arity)) (λ t. rw t refl) (λ t. rw t (row_in-small rows name arity))
+
+listed-small : (xs : List Action) → length xs ≤ 3 → listed (small xs) ≡ xs
+listed-small [] h = refl
+listed-small (x ∷ []) h = refl
+listed-small (x ∷ y ∷ []) h = refl
+listed-small (x ∷ y ∷ z ∷ []) h = refl
+listed-small (x ∷ y ∷ z ∷ w ∷ xs) h = absurd (omega arith)
+
+pub listed_actions : (name : List ℕ) (arity : ℕ) → listed (small (actions_of name arity)) ≡ actions_of name arity
+listed_actions name arity = listed-small (actions_of name arity) (actions_few name arity)

@@ -1,9 +1,10 @@
-ghost use Rattle.std.specs.Prelude.{◌≡◌, [], ◌∷◌, map};
-ghost use Rattle.plai_builtins.specs.Actions.{acting, actions_in};
+ghost use Rattle.std.specs.Prelude.{◌≡◌, [], ◌∷◌, map, Some, None, if◌then◌else◌};
+ghost use Rattle.plai_clauses.specs.Builtins.{is_builtin_key};
 ghost use Rattle.plai_builtins.specs.Actions as specs;
-ghost use Rattle.plai_builtins.specs.Listed.{listed};
+ghost use Rattle.plai_builtins.specs.Listed.{listed, small, row_in};
 
 use plai_base::Mask;
+use plai_clauses::is_builtin;
 use plai_domain::Action;
 use plai_terms::Name;
 
@@ -30,7 +31,7 @@ impl Actions {
 }
 
 fn none() -> Actions
-    ensures { listed result ≡ [] }
+    ensures { result ≡ small [] }
 {
     Actions {
         count: 0,
@@ -39,7 +40,7 @@ fn none() -> Actions
 }
 
 fn one(action: Action) -> Actions
-    ensures { listed result ≡ action ∷ [] }
+    ensures { result ≡ small (action ∷ []) }
 {
     Actions {
         count: 1,
@@ -48,7 +49,7 @@ fn one(action: Action) -> Actions
 }
 
 fn two(first: Action, second: Action) -> Actions
-    ensures { listed result ≡ first ∷ second ∷ [] }
+    ensures { result ≡ small (first ∷ second ∷ []) }
 {
     Actions {
         count: 2,
@@ -57,7 +58,7 @@ fn two(first: Action, second: Action) -> Actions
 }
 
 fn three(first: Action, second: Action, third: Action) -> Actions
-    ensures { listed result ≡ first ∷ second ∷ third ∷ [] }
+    ensures { result ≡ small (first ∷ second ∷ third ∷ []) }
 {
     Actions {
         count: 3,
@@ -67,8 +68,7 @@ fn three(first: Action, second: Action, third: Action) -> Actions
 
 /// The actions of the first row with this name and number of arguments.
 fn actions_in(rows: &[(&str, u32, Actions)], name: &[u8], arity: u32) -> Actions
-    ensures { listed result
-        ≡ actions_in (map (λ row. acting row.0.now row.1 (listed row.2)) rows.now) name.now arity }
+    ensures { result ≡ row_in (map (λ row. (row.0.now, row.1, row.2)) rows.now) name.now arity }
 {
     for row in rows {
         if row.0.as_bytes() == name && row.1 == arity {
@@ -81,7 +81,8 @@ fn actions_in(rows: &[(&str, u32, Actions)], name: &[u8], arity: u32) -> Actions
 /// What a builtin does to a state: its actions in turn, none where the name with that number of arguments is no builtin.
 /// It takes no memory.
 pub fn actions_of(name: &Name, arity: u32) -> Actions
-    ensures { listed result ≡ specs.actions_of name.now arity }
+    ensures exact { result ≡ small (specs.actions_of name.now arity) }
+    ensures actions { listed result ≡ specs.actions_of name.now arity }
 {
     let rows: [(&str, u32, Actions); 21] = [
         ("fail", 0, one(Action::Fail)),
@@ -119,4 +120,51 @@ pub fn actions_of(name: &Name, arity: u32) -> Actions
         ("copy_term", 2, one(Action::Havoc(Mask::from_bits(2)))),
     ];
     actions_in(rows.as_slice(), name.as_slice(), arity)
+}
+
+/// What a builtin does to a state: its actions in turn. `None` exactly where the name with that number of arguments is no
+/// builtin. It takes no memory.
+pub fn table(name: &Name, arity: u32) -> Option<Actions>
+    ensures { result ≡ (if is_builtin_key name.now arity then Some (small (specs.actions_of name.now arity)) else None) }
+{
+    if is_builtin(name, arity) {
+        Some(actions_of(name, arity))
+    } else {
+        None
+    }
+}
+
+#[cfg(test)]
+mod tests {
+    use super::*;
+    use std::test::Fail;
+
+    #[test]
+    fn actions_are_those_of_the_builtins(rt: HostRuntime) -> Result<(), Fail> {
+        let none: &[Action] = &[];
+        let last = Action::Havoc(Mask::empty().insert(0));
+        for (text, arity, wanted) in [
+            ("nl", 0, Some(none)),
+            (
+                "is",
+                2,
+                Some([Action::Ground(2), Action::BindInt(1)].as_slice()),
+            ),
+            (
+                "functor",
+                3,
+                Some([Action::Ground(2), Action::BindInt(3), last].as_slice()),
+            ),
+            ("is", 3, None),
+            ("p", 0, None),
+        ] {
+            let name = Name::new(Vec::from_slice(rt.alloc(), text.as_bytes())?);
+            match (table(&name, arity), wanted) {
+                (None, None) => {}
+                (Some(found), Some(actions)) => assert_eq!(rt; found.as_slice(), actions),
+                _ => assert!(rt; false, "{text} of {arity}"),
+            }
+        }
+        Ok(())
+    }
 }

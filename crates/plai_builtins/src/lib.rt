@@ -4,5 +4,5 @@
 mod actions;
 mod laws;
 
-pub use actions::{Actions, actions_of};
+pub use actions::{Actions, actions_of, table};
 pub use laws::table_laws;

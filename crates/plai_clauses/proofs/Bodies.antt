@@ -1,5 +1,5 @@
 -- The goals of a body, the literals that are put behind others, and the bounds on a clause's parts.
-use Rattle.std.proofs.Common.{◌≡◌, ◌∙◌, ℕ, ◌+◌, ◌<◌, ◌≤◌, ℤ, Bool, true, false, ◌||◌, cond, max, fold, map, zero, suc, Option, Some, None, Result, Ok, Err, List, [], ◌∷◌, ◌++◌, length, take, drop, get_or, append-nil, append_assoc, add-one, drop-cons, refl, sym, ap, subst, arith, rules, if◌then◌else◌, codes}
+use Rattle.std.proofs.Common.{◌≡◌, ◌∙◌, ℕ, ◌+◌, ◌<◌, ◌≤◌, ℤ, Bool, true, false, ◌||◌, cond, max, fold, map, zero, suc, Some, None, Result, Ok, Err, List, [], ◌∷◌, ◌++◌, length, take, drop, get_or, append-nil, append_assoc, drop-cons, refl, sym, ap, subst, arith, rules, if◌then◌else◌}
 use Rattle.std.proofs.lemmas.List.{length-map, take_more, take_all, take-append-drop}
 use Rattle.std.proofs.lemmas.Grind.{flat_map-append}
 use Rattle.std.proofs.lemmas.Bool.{ltb-false}
@@ -10,16 +10,15 @@ use Rattle.plai_theory.proofs.Options.{by_test}
 use Rattle.plai_terms.proofs.Terms.{induction}
 use Rattle.plai_terms.specs.declared.term.Term.{Term, Var, Int, Atom, Compound, out-Term, the_lemmas}
 use Rattle.plai_terms.specs.declared.term.Term.TheOpen.{Term-F}
-use Rattle.plai_clauses.specs.declared.clause.Clause.{Clause}
 use Rattle.plai_clauses.specs.declared.clause.Literal.{Literal}
 use Rattle.plai_clauses.specs.declared.cause.ClauseCause.{ClauseCause}
 use Rattle.plai_clauses.specs.declared.cause.ClauseCause.TheVariants.{Unsupported, ArityTooLarge}
 use Rattle.plai_clauses.specs.declared.cause.ClauseFail.{ClauseFail}
 use Rattle.plai_clauses.specs.declared.cause.ClauseFail.TheVariants.{Memory, Refused}
 use Rattle.plai_terms.specs.Readable.{is_wide}
-use Rattle.plai_clauses.specs.Builtins.{is_refused_key, is_builtin_key}
+use Rattle.plai_clauses.specs.Builtins.{is_refused_key}
 use Rattle.plai_clauses.specs.Bodies.{behind, Puts}
-use Rattle.plai_clauses.specs.ClauseOf.{is_conjunction, with_goals, goals_step, goals_of, cause_of_key, unless, target_of, literal_at, literal_in, literal_of, in_front, body_of, two, two_arguments, widest}
+use Rattle.plai_clauses.specs.ClauseOf.{is_conjunction, with_goals, goals_step, goals_of, cause_of_key, unless, target_of, literal_in, literal_of, in_front, body_of, two, two_arguments, widest}
 
 -- the goals of a term
 
@@ -108,10 +107,10 @@ narrow_pair (x ∷ y ∷ []) h b e f =
     (sym (ap (λ (z : Term × Term). is_wide z.0) r) ∙ p.0, sym (ap (λ (z : Term × Term). is_wide z.1) r) ∙ q.0)
 narrow_pair (x ∷ y ∷ z ∷ args) h b e f = cc
 
-two_arguments-Compound : (wanted name : List ℕ) (args : List Term) → two_arguments wanted (Compound name args) ≡ cond (pointwise nat_eq name wanted) (two args) None
+pub two_arguments-Compound : (wanted name : List ℕ) (args : List Term) → two_arguments wanted (Compound name args) ≡ cond (pointwise nat_eq name wanted) (two args) None
 two_arguments-Compound wanted name args = search (rules, the_lemmas)
 
-named_pair : (b : Bool) (args : List Term) (x y : Term) → cond b (two args) None ≡ Some (x, y) → two args ≡ Some (x, y)
+pub named_pair : (b : Bool) (args : List Term) (x y : Term) → cond b (two args) None ≡ Some (x, y) → two args ≡ Some (x, y)
 named_pair true args x y e = e
 named_pair false args x y e = cc
 
@@ -153,6 +152,30 @@ shift (Err c) a b = refl
 shift (Ok l) (Err c) b = refl
 shift (Ok l) (Ok ls) (Err c) = refl
 shift (Ok l) (Ok ls) (Ok ks) = refl
+
+-- what a key that is no cause gives: at most 16 arguments
+pub unless_ok : {A : Type 0} (refused : Bool) (name : List ℕ) (n : ℕ) (x y : A) → unless (cause_of_key refused name n) x ≡ Ok y → (n ≤ 16) × (x ≡ y)
+unless_ok {A} refused name n x y e =
+    by_test refused (λ t. absurd (first t))
+    (λ t. by_test (nat_lt 16 n) (λ u. absurd (second t u)) (λ u. (ltb-false 16 n u, third t u)))
+  where
+    first : refused ≡ true → ⊥
+    first t = let f : unless (cause_of_key refused name n) x ≡ Err (Unsupported name n) = rw t refl in cc
+
+    second : refused ≡ false → nat_lt 16 n ≡ true → ⊥
+    second t u = let f : unless (cause_of_key refused name n) x ≡ Err (ArityTooLarge n) = rw (t, u) refl in cc
+
+    third : refused ≡ false → nat_lt 16 n ≡ false → x ≡ y
+    third t u = let f : unless (cause_of_key refused name n) x ≡ Ok x = rw (t, u) refl in cc
+
+-- what each literal has, and those behind it, the literals together have
+pub in_front_all : (P : Literal → Type 0) (l : Result Literal ClauseCause) (rest : Result (List Literal) ClauseCause) (body : List Literal)
+    → ((k : Literal) → l ≡ Ok k → P k) → ((ks : List Literal) → rest ≡ Ok ks → AllByRecursion P ks) → in_front l rest ≡ Ok body → AllByRecursion P body
+in_front_all P (Err c) rest body f g e = cc
+in_front_all P (Ok l) (Err c) body f g e = cc
+in_front_all P (Ok l) (Ok ls) body f g e =
+    let b : l ∷ ls ≡ body = cc in
+    subst (λ (ks : List Literal). AllByRecursion P ks) b (f l refl, g ls refl)
 
 module _ (m : List ℕ) (is : List (List ℕ × ℕ × List ℕ)) where
   body_of-append : (xs ys : List Term) → body_of m is (xs ++ ys) ≡ after (body_of m is xs) (body_of m is ys)
@@ -196,47 +219,23 @@ module _ (m : List ℕ) (is : List (List ℕ × ℕ × List ℕ)) where
   put_all before mid args i t h g a =
       ap (λ gs. behind before (body_of m is gs)) (g ∙ ap (flat_map goals_of) (sym (take_all i args h))) ∙ a
 
-  -- the bound on a literal's arguments
-  few_at : (refused : Bool) (name : List ℕ) (n : ℕ) (l k : Literal) → unless (cause_of_key refused name n) l ≡ Ok k → (n ≤ 16) × (l ≡ k)
-  few_at refused name n l k e =
-      by_test refused (λ t. absurd (first t))
-      (λ t. by_test (nat_lt 16 n) (λ u. absurd (second t u)) (λ u. (ltb-false 16 n u, third t u)))
-    where
-      first : refused ≡ true → ⊥
-      first t = let f : unless (cause_of_key refused name n) l ≡ Err (Unsupported name n) = rw t refl in cc
-
-      second : refused ≡ false → nat_lt 16 n ≡ true → ⊥
-      second t u = let f : unless (cause_of_key refused name n) l ≡ Err (ArityTooLarge n) = rw (t, u) refl in cc
-
-      third : refused ≡ false → nat_lt 16 n ≡ false → l ≡ k
-      third t u = let f : unless (cause_of_key refused name n) l ≡ Ok l = rw (t, u) refl in cc
-
   few_in : (y : Term-F Term) (k : Literal) → literal_in m is y ≡ Ok k → length k.args ≤ 16
   few_in (Term-F.Var v) k e = cc
   few_in (Term-F.Int n) k e = cc
   few_in (Term-F.Atom a) k e =
-      let p = few_at (is_refused_key a 0) a 0 (record { name = a; args = []; target = target_of m is a 0 }) k e in
+      let p = unless_ok (is_refused_key a 0) a 0 (record { name = a; args = []; target = target_of m is a 0 }) k e in
       subst (λ (l : Literal). length l.args ≤ 16) p.1 p.0
   few_in (Term-F.Compound name args) k e =
-      let p = few_at (is_refused_key name (length args)) name (length args) (record { name = name; args = args; target = target_of m is name (length args) }) k e in
+      let p = unless_ok (is_refused_key name (length args)) name (length args) (record { name = name; args = args; target = target_of m is name (length args) }) k e in
       subst (λ (l : Literal). length l.args ≤ 16) p.1 p.0
 
   bounded : (ls : List Literal) (a : ℕ) → a ≤ 16 → AllByRecursion (λ l. length l.args ≤ 16) ls → fold max a (map (λ l. length l.args) ls) ≤ 16
   bounded [] a h all = h
   bounded (l ∷ ls) a h all = let k = all.0 in bounded ls (max a (length l.args)) (omega arith) all.1
 
-  unpacked : (l : Result Literal ClauseCause) (rest : Result (List Literal) ClauseCause) (body : List Literal)
-      → ((k : Literal) → l ≡ Ok k → length k.args ≤ 16) → ((ks : List Literal) → rest ≡ Ok ks → AllByRecursion (λ k. length k.args ≤ 16) ks)
-      → in_front l rest ≡ Ok body → AllByRecursion (λ k. length k.args ≤ 16) body
-  unpacked (Err c) rest body f g e = cc
-  unpacked (Ok l) (Err c) body f g e = cc
-  unpacked (Ok l) (Ok ls) body f g e =
-      let b : l ∷ ls ≡ body = cc in
-      subst (λ (ks : List Literal). AllByRecursion (λ k. length k.args ≤ 16) ks) b (f l refl, g ls refl)
-
   all_few : (goals : List Term) (body : List Literal) → body_of m is goals ≡ Ok body → AllByRecursion (λ k. length k.args ≤ 16) body
   all_few [] body e = let b : [] ≡ body = cc in subst (λ (ks : List Literal). AllByRecursion (λ k. length k.args ≤ 16) ks) b tt
-  all_few (goal ∷ goals) body e = unpacked (literal_of m is goal) (body_of m is goals) body (few_in (out-Term goal)) (all_few goals) e
+  all_few (goal ∷ goals) body e = in_front_all (λ k. length k.args ≤ 16) (literal_of m is goal) (body_of m is goals) body (few_in (out-Term goal)) (all_few goals) e
 
   -- Theorem: no literal of a body has more than 16 arguments.
   pub widest_few : (goals : List Term) (body : List Literal) → behind [] (body_of m is goals) ≡ Ok body → widest body ≤ 16

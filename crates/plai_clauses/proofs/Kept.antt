@@ -1,5 +1,5 @@
 -- A program stays well formed when what is added to it is, and when something is taken away.
-use Rattle.std.proofs.Common.{◌≡◌, ℕ, ◌-◌, zero, suc, Bool, true, false, List, [], ◌∷◌, ◌++◌, take, drop, length, filter, ap, subst, sym, ◌∙◌, inl, inr, ◌⊎◌, if◌then◌else◌}
+use Rattle.std.proofs.Common.{◌≡◌, ℕ, ◌-◌, zero, suc, List, [], ◌∷◌, ◌++◌, take, drop, length, ap, subst, inl, inr, ◌⊎◌, if◌then◌else◌}
 use Rattle.std.specs.List.{insert, remove}
 use Rattle.plai_theory.specs.Words.{IsIn}
 use Rattle.plai_theory.proofs.Options.{by_test}

@@ -2,7 +2,6 @@
 -- 6.2.1.2 and 7.6; the causes of a term that says none are this project's).
 use Rattle.std.specs.Prelude.{◌≡◌, ℕ, ◌+◌, Bool, cond, ◌&&◌, ◌||◌, nat_eq, nat_lt, max, fold, map, flat_map, codes, Option, Some, None, unwrap_or, Result, Ok, Err, List, [], ◌∷◌, length, if◌then◌else◌}
 use Rattle.std.specs.Cmp.Lexicographic.{pointwise}
-use Rattle.plai_terms.specs.declared.pred_key.PredKey.{PredKey}
 use Rattle.plai_terms.specs.declared.read_term.ReadTerm.{ReadTerm}
 use Rattle.plai_terms.specs.declared.term.Term.{Term, Var, Int, Atom, Compound, fold-Term, out-Term}
 use Rattle.plai_terms.specs.declared.term.Term.TheOpen.{Term-F}
@@ -15,7 +14,7 @@ use Rattle.plai_clauses.specs.declared.cause.ClauseCause.{ClauseCause}
 use Rattle.plai_clauses.specs.declared.cause.ClauseCause.TheVariants.{NotAClause, Unsupported, ArityTooLarge, TooManySlots}
 use Rattle.plai_clauses.specs.declared.cause.ClauseFail.{ClauseFail}
 use Rattle.plai_clauses.specs.declared.cause.ClauseFail.TheVariants.{Memory, Refused}
-use Rattle.plai_clauses.specs.Builtins.{is_key, is_builtin_key, is_refused_key}
+use Rattle.plai_clauses.specs.Builtins.{is_builtin_key, is_refused_key}
 
 -- the module of the first import of a key
 abbrev pub exporter : List (List ℕ × ℕ × List ℕ) → List ℕ → ℕ → Option (List ℕ)

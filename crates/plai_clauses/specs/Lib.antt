@@ -4,3 +4,5 @@ pub mod ClauseOf
 pub mod Program
 pub mod WellFormed
 pub mod Codes
+pub mod ByModule
+pub mod Invariant

@@ -4,6 +4,7 @@ ghost use Rattle.plai_terms.specs.Readable.{is_wide, IsReadable};
 ghost use Rattle.plai_clauses.specs.ClauseOf.{Answers, cause_of_key, target_of, head_at, head_of, literal_at, literal_of, body_of, is_conjunction, goals_of, two, two_arguments, widest, within_slots, clause_from, clause_in, clause_of};
 ghost use Rattle.plai_clauses.specs.declared.cause.ClauseCause.TheVariants.{Unsupported};
 ghost use Rattle.plai_clauses.specs.Bodies.{Puts};
+ghost use Rattle.plai_clauses.specs.WellFormed.{IsWellFormedClause};
 
 use crate::cause::{ClauseCause, ClauseFail};
 use crate::clause::{Clause, Literal, Target, copy_terms};
@@ -285,7 +286,8 @@ impl Clause {
         term: &ReadTerm,
     ) -> Result<Clause, ClauseFail>
         requires readable { IsReadable term.now }
-        ensures { Answers (clause_of «module».now imports.now term.now) result }
+        ensures answer { Answers (clause_of «module».now imports.now term.now) result }
+        ensures well_formed { IfOk result IsWellFormedClause }
     {
         match two_arguments(b":-", &term.term) {
             Some((head, body)) => rule(alloc, module, imports, term.variables, head, body),

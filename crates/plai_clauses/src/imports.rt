@@ -66,7 +66,9 @@ fn copy_imports(
     Ok(copies)
 }
 
-fn exporter<'a>(list: &'a [(Name, u32, Name)], name: &Name, arity: u32) -> Option<&'a Name>
+/// The module of the first import of that name and number of arguments: `None` exactly where none of them is imported. It
+/// takes no memory.
+pub fn exporter<'a>(list: &'a [(Name, u32, Name)], name: &Name, arity: u32) -> Option<&'a Name>
     ensures { option_copied result ≡ exporter list.entry.now name.now arity }
 {
     for import in list {
@@ -78,13 +80,8 @@ fn exporter<'a>(list: &'a [(Name, u32, Name)], name: &Name, arity: u32) -> Optio
 }
 
 /// The module whose predicate of that name and number of arguments a module with these imports speaks of: the exporting
-/// one where it imports the key, else itself.
-pub(crate) fn spoken_of<'a>(
-    module: &'a Name,
-    imports: &'a Imports,
-    name: &Name,
-    arity: u32,
-) -> &'a Name
+/// one where it imports the key, else itself. It takes no memory.
+pub fn spoken_of<'a>(module: &'a Name, imports: &'a Imports, name: &Name, arity: u32) -> &'a Name
     ensures { result.now ≡ spoken_of «module».entry.now imports.entry.now name.now arity }
 {
     match exporter(imports.as_slice(), name, arity) {

@@ -1,8 +1,11 @@
-ghost use Rattle.std.specs.Prelude.{◌≡◌};
+ghost use Rattle.std.specs.Prelude.{◌≡◌, map};
 ghost use Rattle.plai_terms.specs.Readable.{is_wide};
+ghost use Rattle.plai_clauses.specs.Program.{many_of};
 
+use crate::homes::Homed;
 use crate::{
-    Check, CheckKind, Clause, ClauseCause, ClauseFail, Entry, Imports, Module, Program, Target,
+    Check, CheckKind, Clause, ClauseCause, ClauseFail, Entry, Imports, Literal, Module, Program,
+    Target,
 };
 use plai_terms::{Args, Listed, Name, PredKey, Prop, ReadTerm, Term};
 use std::alloc::{AllocError, Global};
@@ -70,7 +73,9 @@ fn check_said<R: AllocGlobal + Abort>(
 ) -> Result<(), Fail> {
     let alloc = rt.alloc();
     let read = ReadTerm { term, variables };
-    assert!(rt; read.term.has_variables_below(variables) && variables < 1000 && !is_wide(&read.term));
+    assert!(rt;
+        read.term.has_variables_below(variables) && variables < 1000 && !is_wide(&read.term)
+    );
     let imports = Imports::new(vec![in alloc; (name(alloc, "q")?, 0, name(alloc, "n")?)]?);
     match Clause::from_term(alloc, &name(alloc, "m")?, &imports, &read) {
         Ok(clause) => {
@@ -110,7 +115,14 @@ fn heads_are_refused(rt: HostRuntime) -> Result<(), Fail> {
     check_said(&rt, wide(a, ":-", 1)?, 0, "unsupported", ":-", 1)?;
     check_said(&rt, wide(a, "call", 17)?, 0, "unsupported", "call", 17)?;
     check_said(&rt, wide(a, "-->", 2)?, 0, "unsupported", "-->", 2)?;
-    check_said(&rt, rule(a, wide(a, "-->", 2)?, atom(a, "p")?)?, 0, "clause", "-->", 1)?;
+    check_said(
+        &rt,
+        rule(a, wide(a, "-->", 2)?, atom(a, "p")?)?,
+        0,
+        "clause",
+        "-->",
+        1,
+    )?;
     check_said(&rt, wide(a, "p", 17)?, 0, "arity", "", 17)?;
     check_said(&rt, wide(a, "p", 16)?, 0, "clause", "p", 0)?;
     check_said(&rt, atom(a, "call")?, 0, "clause", "call", 0)?;
@@ -122,16 +134,44 @@ fn goals_are_refused_in_order(rt: HostRuntime) -> Result<(), Fail> {
     let a = rt.alloc();
     let p = || atom(a, "p");
     check_said(&rt, rule(a, p()?, Term::Int(3))?, 0, "none", "", 0)?;
-    check_said(&rt, rule(a, p()?, Term::Var(0))?, 1, "unsupported", "call", 1)?;
-    check_said(&rt, rule(a, p()?, wide(a, "\\+", 1)?)?, 0, "unsupported", "\\+", 1)?;
+    check_said(
+        &rt,
+        rule(a, p()?, Term::Var(0))?,
+        1,
+        "unsupported",
+        "call",
+        1,
+    )?;
+    check_said(
+        &rt,
+        rule(a, p()?, wide(a, "\\+", 1)?)?,
+        0,
+        "unsupported",
+        "\\+",
+        1,
+    )?;
     check_said(&rt, rule(a, p()?, wide(a, "q", 17)?)?, 0, "arity", "", 17)?;
     check_said(&rt, rule(a, p()?, wide(a, "-->", 2)?)?, 0, "clause", "p", 1)?;
     let both = pair(a, ",", Term::Int(3), Term::Var(0))?;
     check_said(&rt, rule(a, p()?, both)?, 1, "none", "", 0)?;
     let both = pair(a, ",", Term::Var(0), Term::Int(3))?;
     check_said(&rt, rule(a, p()?, both)?, 1, "unsupported", "call", 1)?;
-    check_said(&rt, rule(a, atom(a, "nl")?, Term::Int(3))?, 0, "unsupported", "nl", 0)?;
-    check_said(&rt, rule(a, wide(a, "p", 17)?, Term::Int(3))?, 0, "arity", "", 17)?;
+    check_said(
+        &rt,
+        rule(a, atom(a, "nl")?, Term::Int(3))?,
+        0,
+        "unsupported",
+        "nl",
+        0,
+    )?;
+    check_said(
+        &rt,
+        rule(a, wide(a, "p", 17)?, Term::Int(3))?,
+        0,
+        "arity",
+        "",
+        17,
+    )?;
     let left = pair(a, ",", p()?, atom(a, "q")?)?;
     let all = pair(a, ",", left, pair(a, ",", atom(a, "nl")?, p()?)?)?;
     check_said(&rt, rule(a, p()?, all)?, 0, "clause", "p", 4)?;
@@ -238,6 +278,85 @@ fn entries_and_checks_are_by_module(rt: HostRuntime) -> Result<(), Fail> {
         assert_eq!(rt; found.pred.name.as_slice(), text.as_bytes());
     }
     assert_eq!(rt; program.items(), 10);
+    Ok(())
+}
+
+// How many of the items are the module's.
+fn many_of<T: Homed>(items: &[T], name: &Name) -> usize
+    ensures { result ≡ many_of name.now (map T.home items.now) }
+{
+    let mut many: usize = 0;
+    for item in items {
+        if *item.home() == *name {
+            many += 1;
+        }
+    }
+    many
+}
+
+#[test]
+fn entries_and_checks_are_taken_away(rt: HostRuntime) -> Result<(), Fail> {
+    let a = rt.alloc();
+    let mut program = Program::new(a);
+    for (home, text) in [("n", "a"), ("m", "b"), ("n", "c"), ("m", "d"), ("l", "e")] {
+        program.add_entry(a, entry(a, home, text)?)?;
+        program.add_check(a, check(a, home, text)?)?;
+    }
+    let m = name(a, "m")?;
+    assert_eq!(rt; many_of(program.entries(), &m), 2);
+    program.remove_entry(&m, 2);
+    let n = name(a, "n")?;
+    assert_eq!(rt; many_of(program.checks(), &n), 2);
+    program.remove_check(&n, 1);
+    assert_eq!(rt; program.items(), 8);
+    for (found, text) in program.entries().iter().zip(["e", "b", "a", "c"]) {
+        assert_eq!(rt; found.pred.name.as_slice(), text.as_bytes());
+    }
+    for (found, text) in program.checks().iter().zip(["e", "b", "d", "c"]) {
+        assert_eq!(rt; found.pred.name.as_slice(), text.as_bytes());
+    }
+    Ok(())
+}
+
+#[test]
+fn copies_are_equal(rt: HostRuntime) -> Result<(), Fail> {
+    let a = rt.alloc();
+    let m = name(a, "m")?;
+    let mut program = Program::new(a);
+    program.add_module(a, module(a, "m")?)?;
+    let literal = Literal {
+        name: name(a, "q")?,
+        args: Listed::new(vec![in a; Term::Var(0), atom(a, "b")?]?),
+        target: Target::Pred(pred(a, "n", "q", 2)?),
+    };
+    let builtin = Literal {
+        name: name(a, "nl")?,
+        args: Listed::new(Vec::new(a)),
+        target: Target::Builtin,
+    };
+    let head = vec![in a; Term::Var(0)]?;
+    assert_eq!(rt; head.len(), 1);
+    let clause = Clause {
+        name: name(a, "p")?,
+        head: Listed::new(head),
+        variables: 1,
+        body: Listed::new(vec![in a; literal.copy(a)?, builtin.copy(a)?]?),
+    };
+    assert_eq!(rt;
+        format!(in a; "{:?}", literal.copy(a)?)?,
+        format!(in a; "{literal:?}")?
+    );
+    assert_eq!(rt;
+        format!(in a; "{:?}", clause.copy(a)?)?,
+        format!(in a; "{clause:?}")?
+    );
+    program.add_clause(a, &m, clause)?;
+    program.add_entry(a, entry(a, "m", "p")?.copy(a)?)?;
+    program.add_check(a, check(a, "m", "p")?.copy(a)?)?;
+    assert_eq!(rt;
+        format!(in a; "{:?}", program.copy(a)?)?,
+        format!(in a; "{program:?}")?
+    );
     Ok(())
 }
 

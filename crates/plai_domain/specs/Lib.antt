@@ -7,3 +7,4 @@ pub mod Laws
 pub mod Allowed
 pub mod Soundness
 pub mod Names
+pub mod Printed

@@ -6,6 +6,7 @@ ghost use Rattle.plai_domain.specs.Instances.{speaks_within, acts_within};
 ghost use Rattle.plai_domain.specs.Conditions.{most_arguments, IsHead, AreArguments, IsValue, IsState, AreAlike, SpeaksOf};
 ghost use Rattle.plai_domain.specs.Outcomes.{IsOutcome};
 ghost use Rattle.plai_domain.specs.Laws.{IsLawful};
+ghost use Rattle.plai_domain.specs.Printed.{IsPrinted};
 
 use crate::action::Action;
 use crate::dom_fail::DomFail;
@@ -43,8 +44,8 @@ pub trait Domain: Drop {
         requires within { All (speaks_within arity) pre.now }
         ensures { IfOk result (λ value. value_of value ≡ (plain self.now).describe arity pre.now) };
 
-    /// The state in which a clause begins, for a call of as many arguments as its head has; none where the call never
-    /// succeeds there. `Over` exactly where a set that is formed has more than 65,536 groups.
+    /// The state in which a clause begins, for a call of as many arguments as its head has; none where the plain domain
+    /// gives none. `Over` exactly where a set that is formed has more than 65,536 groups.
     fn enter<L: Ledger>(
         &self,
         alloc: Global,
@@ -161,4 +162,7 @@ pub trait Domain: Drop {
 
     /// The laws of an abstract domain.
     ghost lawful: { (domain : Self) → IsLawful (plain domain) };
+
+    /// A value's text tells which value it is.
+    ghost printed: { (domain : Self) → IsPrinted (plain domain) };
 }

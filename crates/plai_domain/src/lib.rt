@@ -5,6 +5,8 @@ mod action;
 mod dom_fail;
 mod domain;
 mod key;
+#[cfg(test)]
+mod tests;
 mod work;
 mod work_log;
 

@@ -1,4 +1,4 @@
-ghost use Rattle.std.specs.Prelude.{◌≡◌, List, None, IfOk, OnOk, OnErr};
+ghost use Rattle.std.specs.Prelude.{◌≡◌, Bool, false, List, None, IfOk, IsOk, OnOk, OnErr};
 ghost use Rattle.std.specs.declared.option.Option.{Option};
 ghost use Rattle.plai_domain.specs.declared.work.WorkEntry.{WorkEntry};
 ghost use Rattle.plai_domain.specs.Noted.{noted};
@@ -45,10 +45,14 @@ pub trait Work {
     /// The entries noted, where the object tells them.
     ghost entries: { Self → Option (List WorkEntry) };
 
+    /// Whether a note may want memory.
+    ghost takes_memory: { Self → Bool };
+
     /// Notes an entry, or leaves what was noted as before for want of memory.
     fn note(&mut self, alloc: Global, entry: &WorkEntry) -> Result<(), AllocError>
         ensures ok { OnOk result (entries self.new ≡ noted entry.now (entries self.old)) }
-        ensures err { OnErr result (entries self.new ≡ entries self.old) };
+        ensures err { OnErr result (entries self.new ≡ entries self.old) }
+        ensures free { takes_memory self.old ≡ false → IsOk result };
 }
 
 /// Keeps nothing, and tells nothing. Its notes take no memory.
@@ -64,6 +68,8 @@ impl Tally {
 
 impl Work for Tally {
     ghost entries = { λ _. None };
+
+    ghost takes_memory = { λ _. false };
 
     fn note(&mut self, _alloc: Global, _entry: &WorkEntry) -> Result<(), AllocError> {
         Ok(())

@@ -1,4 +1,4 @@
-ghost use Rattle.std.specs.Prelude.{◌≡◌, [], Some};
+ghost use Rattle.std.specs.Prelude.{◌≡◌, [], Some, true};
 
 use crate::work::{Work, WorkEntry};
 use std::alloc::{AllocError, Global};
@@ -43,6 +43,8 @@ impl WorkLog {
 
 impl Work for WorkLog {
     ghost entries = { λ log. Some log };
+
+    ghost takes_memory = { λ _. true };
 
     fn note(&mut self, alloc: Global, entry: &WorkEntry) -> Result<(), AllocError> {
         self.kept.push(entry.copy(alloc)?)?;

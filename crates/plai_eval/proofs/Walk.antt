@@ -2,7 +2,7 @@
 use Rattle.std.proofs.Common.{◌≡◌, ℕ, suc, List, [], ◌∷◌, ◌++◌, length, map, Option, Some, None, refl, sym, ap, ◌∙◌}
 use Rattle.std.proofs.lemmas.List.{map-append, append-nil}
 use Rattle.plai_theory.specs.Words.{given}
-use Rattle.plai_theory.specs.Domain.{Step, Goal, Do, Name}
+use Rattle.plai_theory.specs.Domain.{Step, Name}
 use Rattle.plai_theory.specs.Evaluation.{state_behind, calls_along, answer_of, calls_of}
 use Rattle.plai_theory.proofs.Walk.{state_behind-append, calls_along-append}
 use Rattle.plai_terms.specs.declared.term.Term.{Term}
@@ -18,7 +18,7 @@ use Rattle.plai_clauses.specs.declared.clause.Target.TheVariants.{Pred, Builtin}
 use Rattle.plai_builtins.specs.Actions.{actions_of}
 use Rattle.plai_eval.specs.Meaning.{Calling, Acting, actions_then, literal_then, steps_of, row_name, as_domain}
 use Rattle.plai_eval.specs.Evaluation.{Source, Evaluation, as_source, first_of, over_at, over_in, over_along, over_of, evaluation}
-use Rattle.plai_eval.specs.Walk.{Stepped, act, answered, step_at, step, walk, through}
+use Rattle.plai_eval.specs.Walk.{act, answered, step_at, step, walk, through}
 use Rattle.plai_eval.proofs.Over.{literal_then-append}
 
 -- after none no action counts

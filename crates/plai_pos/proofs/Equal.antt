@@ -1,10 +1,8 @@
 -- The order of values.
-use Rattle.std.proofs.Common.{◌≡◌, ℕ, ◌^◌, Bool, true, ◌&&◌, ◌||◌, nat_eq, List, [], ◌∷◌, IsTrue, ◌↔◌, refl, sym, ap, ◌∙◌, subst}
-use Rattle.std.specs.Cmp.Lexicographic.{pointwise}
-use Rattle.std.proofs.lemmas.Bool.{eq-eqb, eqb-true, and_parts, and_from}
+use Rattle.std.proofs.Common.{◌≡◌, ℕ, ◌^◌, Bool, ◌||◌, List, IsTrue, ◌↔◌, refl, sym, ap, ◌∙◌, subst}
 use Rattle.plai_base.specs.Sets.{has, has_all, kept, IsSet}
 use Rattle.plai_assignments.specs.Assignments.{IsPositive, join_of}
-use Rattle.plai_assignments.specs.Groundness.{masks_of, arity_of, Leq}
+use Rattle.plai_assignments.specs.Groundness.{Leq}
 use Rattle.plai_assignments.proofs.Laws.{value_of_positive}
 use Rattle.plai_assignments.proofs.Order.{value_join}
 use Rattle.plai_assignments.proofs.Parts.{all_of, all_from}

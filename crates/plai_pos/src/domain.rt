@@ -22,7 +22,12 @@ impl Ground {
     }
 
     /// The pattern of the arguments with these properties, whose argument numbers are from 1 to the arity.
-    pub fn describe(&self, alloc: Global, arity: u32, pre: &[Prop]) -> Result<Value, AllocError>
+    pub(crate) fn describe(
+        &self,
+        alloc: Global,
+        arity: u32,
+        pre: &[Prop],
+    ) -> Result<Value, AllocError>
         requires small { arity ≤ 16 }
         requires within { All (speaks_within arity) pre.now }
         ensures { IfOk result (λ value. value_of value ≡ groundness.describe arity pre.now) }
@@ -35,7 +40,7 @@ impl Ground {
     }
 
     /// The state in which a clause of so many variables begins, for a call of as many arguments as its head has.
-    pub fn enter(
+    pub(crate) fn enter(
         &self,
         alloc: Global,
         call: &Value,
@@ -57,7 +62,12 @@ impl Ground {
     }
 
     /// The call of a literal with these arguments.
-    pub fn call(&self, alloc: Global, state: &State, args: &[Term]) -> Result<Value, AllocError>
+    pub(crate) fn call(
+        &self,
+        alloc: Global,
+        state: &State,
+        args: &[Term],
+    ) -> Result<Value, AllocError>
         requires small { length args.now ≤ 16 }
         requires below { all_below (state_of state.now).variables args.now ≡ true }
         ensures { IfOk result (λ value. value_of value
@@ -71,7 +81,7 @@ impl Ground {
     }
 
     /// The state behind a literal with these arguments and this answer.
-    pub fn back(
+    pub(crate) fn back(
         &self,
         alloc: Global,
         state: &State,
@@ -95,7 +105,7 @@ impl Ground {
     }
 
     /// What an action of a builtin leaves of the state at a literal with these arguments, or none.
-    pub fn refine(
+    pub(crate) fn refine(
         &self,
         alloc: Global,
         state: &State,
@@ -111,7 +121,12 @@ impl Ground {
     }
 
     /// The answer of a clause with this head, from the state at its end.
-    pub fn exit(&self, alloc: Global, state: &State, head: &[Term]) -> Result<Value, AllocError>
+    pub(crate) fn exit(
+        &self,
+        alloc: Global,
+        state: &State,
+        head: &[Term],
+    ) -> Result<Value, AllocError>
         ensures { IfOk result (λ value. value_of value ≡ groundness.exit (state_of state.now) head.now) }
     {
         let masks = sets::projected(alloc, state.arity, state.masks.as_slice())?;
@@ -122,7 +137,7 @@ impl Ground {
     }
 
     /// The least value above two values of one arity.
-    pub fn join(&self, alloc: Global, a: &Value, b: &Value) -> Result<Value, AllocError>
+    pub(crate) fn join(&self, alloc: Global, a: &Value, b: &Value) -> Result<Value, AllocError>
         requires { arity_of (value_of a.now) ≡ arity_of (value_of b.now) }
         ensures { IfOk result (λ value. value_of value
             ≡ groundness.join (value_of a.now) (value_of b.now)) }
@@ -135,7 +150,7 @@ impl Ground {
     }
 
     /// Whether the first of two values of one arity lies at or below the second.
-    pub fn leq(&self, a: &Value, b: &Value) -> bool
+    pub(crate) fn leq(&self, a: &Value, b: &Value) -> bool
         requires { arity_of (value_of a.now) ≡ arity_of (value_of b.now) }
         ensures { IsTrue result
             ↔ groundness.Leq (arity_of (value_of a.now)) (value_of a.now) (value_of b.now) }
@@ -144,14 +159,14 @@ impl Ground {
     }
 
     /// Whether two values are equal.
-    pub fn same(&self, a: &Value, b: &Value) -> bool
+    pub(crate) fn same(&self, a: &Value, b: &Value) -> bool
         ensures { IsTrue result ↔ (value_of a.now ≡ value_of b.now) }
     {
         *a == *b
     }
 
     /// Whether each tuple that the value describes has the property.
-    pub fn entails(&self, a: &Value, prop: &Prop) -> bool
+    pub(crate) fn entails(&self, a: &Value, prop: &Prop) -> bool
         requires { speaks_within (arity_of (value_of a.now)) prop.now }
         ensures { result ≡ groundness.entails (value_of a.now) prop.now }
     {
@@ -159,7 +174,7 @@ impl Ground {
     }
 
     /// Whether no tuple that the value describes has the property.
-    pub fn excludes(&self, a: &Value, prop: &Prop) -> bool
+    pub(crate) fn excludes(&self, a: &Value, prop: &Prop) -> bool
         requires { speaks_within (arity_of (value_of a.now)) prop.now }
         ensures { result ≡ groundness.excludes (value_of a.now) prop.now }
     {
@@ -167,7 +182,7 @@ impl Ground {
     }
 
     /// The pattern of the value.
-    pub fn to_abs(&self, alloc: Global, a: &Value) -> Result<Abs, AllocError>
+    pub(crate) fn to_abs(&self, alloc: Global, a: &Value) -> Result<Abs, AllocError>
         ensures { IfOk result (λ abs. abs ≡ value_of a.now) }
     {
         let masks: Vec<Mask> = Vec::from_slice(alloc, a.masks.as_slice())?;

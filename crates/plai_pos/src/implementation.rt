@@ -10,6 +10,7 @@ impl Domain for Ground {
     ghost use Rattle.std.specs.Prelude.{refl};
     ghost use Rattle.plai_assignments.specs.Groundness.{groundness};
     ghost use Rattle.plai_assignments.proofs.Lawful.{groundness_lawful};
+    ghost use Rattle.plai_assignments.proofs.Printed.{groundness_printed};
     ghost use Rattle.plai_pos.specs.Values.{value_of as pattern_of, state_of as view_of};
     ghost use Rattle.plai_pos.specs.Equality.{same_value};
 
@@ -26,6 +27,8 @@ impl Domain for Ground {
     ghost equal = { λ a b. same_value a b _ refl };
 
     ghost lawful = { λ _. groundness_lawful };
+
+    ghost printed = { λ _. groundness_printed };
 
     fn describe(&self, alloc: Global, arity: u32, pre: &[Prop]) -> Result<Value, AllocError> {
         Ground::describe(self, alloc, arity, pre)

@@ -3,15 +3,15 @@ ghost use Rattle.plai_lex.specs.Tokens.{IsWritten};
 
 use crate::{OpFail, OpKind, OpTable, ReadTermFail, read_term};
 use plai_lex::{Lexer, Token};
-use plai_terms::{Name, print_term};
+use plai_terms::{Args, Name, Term, print_term};
 use std::alloc::Global;
 use std::test::Fail;
 
-fn tokens_of(alloc: Global, text: &str) -> Result<Vec<Token>, Fail>
+fn tokens_of(alloc: Global, text: &[u8]) -> Result<Vec<Token>, Fail>
     ensures written { IfOk result (λ tokens. All (λ token. IsWritten token.kind) tokens.items) }
     ensures few { IfOk result (λ tokens. length tokens.items ≤ 300000) }
 {
-    let mut lexer = Lexer::new(text.as_bytes());
+    let mut lexer = Lexer::new(text);
     let mut tokens = Vec::new(alloc);
     for count in 0..300_000u32 {
         match lexer.next(alloc)? {
@@ -24,7 +24,7 @@ fn tokens_of(alloc: Global, text: &str) -> Result<Vec<Token>, Fail>
 
 /// The text of the term, or the name of the refusal.
 fn answer(alloc: Global, ops: &OpTable, text: &str) -> Result<Vec<u8>, Fail> {
-    let tokens = tokens_of(alloc, text)?;
+    let tokens = tokens_of(alloc, text.as_bytes())?;
     let mut out = Vec::new(alloc);
     match read_term(alloc, ops, tokens.as_slice()) {
         Ok(read) => print_term(alloc, &read.term, &mut out)?,
@@ -203,5 +203,82 @@ fn operators(rt: HostRuntime) -> Result<(), Fail> {
         answer(alloc, &ops, "a + b.")?.as_slice(),
         b"syntax".as_slice()
     );
+    Ok(())
+}
+
+/// Names that print bare or in quotes: words, operators of each kind, symbols, and what is neither.
+const NAMES: [&str; 21] = [
+    "a",
+    "aB_1",
+    "entry",
+    "mod",
+    "is",
+    "+",
+    "-",
+    "\\+",
+    "=",
+    ":-",
+    ";",
+    "!",
+    "..",
+    ",",
+    "|",
+    "{}",
+    "",
+    "A b",
+    "it's",
+    "a\\\n\x07",
+    "/*",
+];
+
+/// Atoms, integers and a variable: what stands within the terms that are printed and read.
+fn leaves(alloc: Global) -> Result<Vec<Term>, Fail> {
+    let mut leaves = Vec::new(alloc);
+    for name in &NAMES {
+        leaves.push(Term::Atom(name_of(alloc, name)?))?;
+    }
+    for name in ["[]", ".", "\u{e4}"] {
+        leaves.push(Term::Atom(name_of(alloc, name)?))?;
+    }
+    for value in [0, -1, i128::MAX, i128::MIN + 1] {
+        leaves.push(Term::Int(value))?;
+    }
+    leaves.push(Term::Var(0))?;
+    Ok(leaves)
+}
+
+/// `f(first,f(second))`.
+fn nested_in(alloc: Global, name: &str, first: &Term, second: &Term) -> Result<Term, Fail> {
+    let inner = Args::new(vec![in alloc; second.copy(alloc)?]?);
+    let second = Term::Compound(name_of(alloc, name)?, inner);
+    let args = Args::new(vec![in alloc; first.copy(alloc)?, second]?);
+    Ok(Term::Compound(name_of(alloc, name)?, args))
+}
+
+fn is_read_back(alloc: Global, ops: &OpTable, term: &Term) -> Result<bool, Fail> {
+    let mut text = Vec::new(alloc);
+    print_term(alloc, term, &mut text)?;
+    text.extend_from_slice(b" .")?;
+    let tokens = tokens_of(alloc, text.as_slice())?;
+    match read_term(alloc, ops, tokens.as_slice()) {
+        Ok(read) => Ok(read.term == *term),
+        Err(_) => Ok(false),
+    }
+}
+
+#[test]
+fn printed_terms_are_read_back(rt: HostRuntime) -> Result<(), Fail> {
+    let alloc = rt.alloc();
+    let ops = OpTable::standard(alloc)?;
+    let leaves = leaves(alloc)?;
+    for first in leaves.as_slice() {
+        assert!(rt; is_read_back(alloc, &ops, first)?);
+        for second in leaves.as_slice() {
+            for name in &NAMES {
+                let term = nested_in(alloc, name, first, second)?;
+                assert!(rt; is_read_back(alloc, &ops, &term)?, "{term:?}");
+            }
+        }
+    }
     Ok(())
 }

@@ -1,3 +1,4 @@
 pub mod Apart
 pub mod Moves
+pub mod NameTexts
 pub mod Ordered

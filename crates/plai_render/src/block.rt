@@ -43,7 +43,7 @@ fn write_rows(alloc: Global, rows: &[PlainRow], out: &mut Vec<u8>) -> Result<(),
     Ok(())
 }
 
-fn write_head(number: u64, out: &mut Vec<u8>) -> Result<(), AllocError>
+pub(crate) fn write_head(number: u64, out: &mut Vec<u8>) -> Result<(), AllocError>
     ensures { OnOk result (out.new.items ≡ out.old.items ++ codes "edit " ++ decimal number ++ 10 ∷ []) }
 {
     out.extend_from_slice(b"edit ")?;

@@ -5,11 +5,13 @@ mod block;
 mod keyed;
 mod laws;
 mod order;
+mod stopped;
 
 pub use block::render_table;
-pub use laws::distinct_names_are_apart;
+pub use laws::{distinct_names_are_apart, names_have_different_texts};
 pub use order::sort_rows;
 pub use plai_terms::PlainRow;
+pub use stopped::render_stopped;
 
 #[cfg(test)]
 mod tests;

@@ -2,7 +2,10 @@ ghost use Rattle.std.specs.Prelude.{◌≤◌, All, IfOk};
 ghost use Rattle.plai_terms.specs.Pattern.{arity_of};
 ghost use Rattle.plai_render.specs.Order.{IsNarrow};
 
-use crate::{PlainRow, distinct_names_are_apart, render_table, sort_rows};
+use crate::{
+    PlainRow, distinct_names_are_apart, names_have_different_texts, render_stopped, render_table,
+    sort_rows,
+};
 use plai_base::Mask;
 use plai_terms::{Abs, Listed, Name, PredKey, RowName};
 use std::alloc::{AllocError, Global};
@@ -56,6 +59,7 @@ fn sample(alloc: Global) -> Result<Vec<PlainRow>, AllocError>
 fn empty_tables_print(rt: HostRuntime) -> Result<(), Fail> {
     let alloc = rt.alloc();
     distinct_names_are_apart();
+    names_have_different_texts();
     let mut out = Vec::from_slice(alloc, b"> ")?;
     render_table(alloc, 18446744073709551615, &[], &mut out)?;
     let printed = b"> edit 18446744073709551615\nend\n";
@@ -77,6 +81,17 @@ row m:u/1 call (1 t f) answer none
 row m:u/1 call t answer f
 end
 ";
+    assert_eq!(rt; out.as_slice(), printed.as_slice());
+    Ok(())
+}
+
+#[test]
+fn stopped_blocks_print(rt: HostRuntime) -> Result<(), Fail> {
+    let alloc = rt.alloc();
+    let mut out = Vec::new(alloc);
+    render_stopped(alloc, 0, Some(1), &mut out)?;
+    render_stopped(alloc, 12, None, &mut out)?;
+    let printed = b"edit 0\nstopped rows 1\nend\nedit 12\nstopped groups 65536\nend\n";
     assert_eq!(rt; out.as_slice(), printed.as_slice());
     Ok(())
 }

@@ -32,7 +32,7 @@ same_skeleton-roll (Skeleton-F.Atom a) (Skeleton-F.Atom b) = laws.is _ _ ∙ sea
 same_skeleton-roll (Skeleton-F.Compound n as') (Skeleton-F.Compound m bs) = laws.is _ _ ∙ search (rules, the_lemmas)
 same_skeleton-roll _ _ = laws.is _ _ ∙ search (rules, the_lemmas)
 
-both : (p q : Bool) → (p && q) ≡ true → (p ≡ true) × (q ≡ true)
+pub both : (p q : Bool) → (p && q) ≡ true → (p ≡ true) × (q ≡ true)
 both true q e = (refl, e)
 both false q e = cc
 

@@ -43,3 +43,18 @@ module _ (P : Term → Type 0)
 
   pub induction : (t : Term) → P t
   induction = ind-Term P (λ x y is. subst (λ z. P (roll-Term z)) is (on_layer y))
+
+-- the arguments of a level
+abbrev pub arguments : {A : Type 0} → Term-F A → List A
+arguments (Term-F.Compound _ args) = args
+arguments _ = []
+
+-- An induction over terms, level by level.
+module _ (P : Term → Type 0)
+    (on_level : (x : Term-F Term) → AllByRecursion P (arguments x) → P (roll-Term x)) where
+  pub induction_by_levels : (t : Term) → P t
+  induction_by_levels = induction P
+      (λ v. subst P (rolls-Var v) (on_level (Term-F.Var v) tt))
+      (λ n. subst P (rolls-Int n) (on_level (Term-F.Int n) tt))
+      (λ a. subst P (rolls-Atom a) (on_level (Term-F.Atom a) tt))
+      (λ name args h. subst P (rolls-Compound name args) (on_level (Term-F.Compound name args) h))

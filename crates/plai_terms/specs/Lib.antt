@@ -9,5 +9,7 @@ pub mod Pattern
 pub mod RowOrder
 pub mod Substitution
 pub mod Unification
+pub mod Unifiers
+pub mod Progress
 pub mod Rows
 pub mod Readable

@@ -1,5 +1,5 @@
 -- Depth, variables and groundness of terms (ISO/IEC 13211-1:1995, 7.1 and 7.1.1.1).
-use Rattle.std.specs.Prelude.{ℕ, ◌+◌, Bool, true, false, nat_eq, nat_lt, max, fold}
+use Rattle.std.specs.Prelude.{ℕ, ◌+◌, ◌^◌, ℤ, pos, negsuc, Bool, true, false, nat_eq, nat_lt, max, fold}
 use Rattle.std.specs.List.{list_any, list_all}
 use Rattle.plai_terms.specs.declared.term.Term.{Term, fold-Term}
 use Rattle.plai_terms.specs.declared.term.Term.TheOpen.{Term-F}
@@ -47,3 +47,19 @@ below_step limit (Term-F.Compound _ belows) = list_all (λ b. b) belows
 -- each variable is numbered below the limit
 abbrev pub has_variables_below : ℕ → Term → Bool
 has_variables_below limit = fold-Term Bool (below_step limit)
+
+-- from -2^127 to 2^127 - 1
+abbrev pub integer_fits : ℤ → Bool
+integer_fits (pos n) = nat_lt n (2 ^ 127)
+integer_fits (negsuc n) = nat_lt n (2 ^ 127)
+
+-- one level: the numbers of the arguments are within their types
+abbrev pub fits_step : Term-F Bool → Bool
+fits_step (Term-F.Var v) = nat_lt v (2 ^ 32)
+fits_step (Term-F.Int n) = integer_fits n
+fits_step (Term-F.Atom _) = true
+fits_step (Term-F.Compound _ fits) = list_all (λ b. b) fits
+
+-- each variable is numbered below 2^32, and each integer has 128 bits
+abbrev pub numbers_fit : Term → Bool
+numbers_fit = fold-Term Bool fits_step

@@ -6,6 +6,8 @@ use Rattle.plai_terms.specs.Term.{occurs}
 use Rattle.plai_terms.specs.Subst.{apply_of, composed}
 use Rattle.plai_terms.specs.declared.term.Term.{Term, out-Term}
 use Rattle.plai_terms.specs.declared.term.Term.TheOpen.{Term-F}
+use Rattle.plai_terms.specs.declared.moves.Move.{Move}
+use Rattle.plai_terms.specs.declared.moves.Move.TheVariants.{Skip, Bind, Split, Differ, Contain}
 use Rattle.plai_terms.specs.declared.outcome.Outcome.{Outcome}
 use Rattle.plai_terms.specs.declared.outcome.Outcome.TheVariants.{Unified, Clash, Occurs}
 
@@ -21,15 +23,6 @@ equations [] ys = []
 equations (x ∷ xs) [] = []
 equations (x ∷ xs) (y ∷ ys) = (x, y) ∷ equations xs ys
 
--- what is done with one equation: it is dropped, a variable is bound, it gives way to the equations of the arguments,
--- its sides can't be made equal, or a variable is to be a term that contains it
-pub data Move : Type 0 where
-  Skip : Move
-  Bind : ℕ → Term → Move
-  Split : Equations → Move
-  Differ : Move
-  Contain : Move
-
 -- a variable with another term
 abbrev pub bind_of : ℕ → Term → Move
 bind_of v t = if occurs v t then Contain else Bind v t
@@ -41,7 +34,9 @@ skip_if b = if b then Skip else Differ
 abbrev pub split_of : List ℕ → List Term → List ℕ → List Term → Move
 split_of a xs b ys = if pointwise nat_eq a b && nat_eq (length xs) (length ys) then Split (equations xs ys) else Differ
 
--- by the two terms and their outermost levels; a variable on the left is bound first
+-- What is done with one equation, by its two terms and their outermost levels: it is dropped, a variable is bound, first one on
+-- the left, it gives way to the equations of the arguments, its sides can't be made equal, or a variable is to be a term that
+-- contains it.
 abbrev pub move_of_levels : Term → Term → Term-F Term → Term-F Term → Move
 move_of_levels l r (Term-F.Var v) (Term-F.Var w) = if v == w then Skip else Bind v r
 move_of_levels l r (Term-F.Var v) y = bind_of v r

@@ -9,6 +9,7 @@ mod atom;
 mod groups;
 mod laws;
 mod listed;
+mod moves;
 mod name;
 mod non_empty;
 mod outcome;
@@ -21,12 +22,14 @@ mod read_term;
 mod row_name;
 mod shape;
 mod skeleton;
+mod solve;
 mod subst;
 mod term;
+mod unifiers;
 
 pub use abs::Abs;
 pub use atom::{print_atom, print_name, print_quoted};
-pub use laws::{rows_are_ordered, texts_differ};
+pub use laws::{equality_is_exact, rows_are_ordered, term_texts_differ, texts_differ};
 pub use listed::Listed;
 pub use name::Name;
 pub use non_empty::NonEmpty;
@@ -39,8 +42,10 @@ pub use prop::Prop;
 pub use read_term::ReadTerm;
 pub use row_name::RowName;
 pub use skeleton::Skeleton;
+pub use solve::unify;
 pub use subst::Subst;
 pub use term::{Args, Term};
+pub use unifiers::unifiers_are_most_general;
 
 #[cfg(test)]
 mod tests;

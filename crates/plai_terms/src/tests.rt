@@ -2,8 +2,9 @@ ghost use Rattle.std.specs.Prelude.{◌≤◌};
 ghost use Rattle.plai_terms.specs.Pattern.{arity_of};
 
 use crate::{
-    Abs, Args, Listed, Name, NonEmpty, PredKey, Prop, ReadTerm, RowName, Skeleton, Subst, Term,
-    print_abs, print_atom, print_name, print_quoted, print_term, rows_are_ordered, texts_differ,
+    Abs, Args, Listed, Name, NonEmpty, Outcome, PredKey, Prop, ReadTerm, RowName, Skeleton, Subst,
+    Term, equality_is_exact, print_abs, print_atom, print_name, print_quoted, print_term,
+    rows_are_ordered, term_texts_differ, texts_differ, unifiers_are_most_general, unify,
 };
 use plai_base::Mask;
 use std::alloc::{AllocError, Global};
@@ -107,6 +108,37 @@ fn substitutions_replace_variables(rt: HostRuntime) -> Result<(), Fail> {
     Ok(())
 }
 
+// f(first,second)
+fn pair(alloc: Global, first: Term, second: Term) -> Result<Term, AllocError> {
+    let items = vec![in alloc; first, second]?;
+    Ok(Term::Compound(name(alloc, b"f")?, Args::new(items)))
+}
+
+#[test]
+fn terms_unify(rt: HostRuntime) -> Result<(), Fail> {
+    let alloc = rt.alloc();
+    unifiers_are_most_general();
+    let left = pair(alloc, Term::Var(0), atom(alloc, b"b")?)?;
+    let right = pair(alloc, atom(alloc, b"a")?, Term::Var(1))?;
+    let unified = pair(alloc, atom(alloc, b"a")?, atom(alloc, b"b")?)?;
+    match unify(alloc, &[left.copy(alloc)?], &[right.copy(alloc)?])? {
+        Outcome::Unified(subst) => {
+            assert_eq!(rt; subst.as_slice().len(), 2);
+            assert_eq!(rt; subst.apply(alloc, &Term::Var(0))?, atom(alloc, b"a")?);
+            assert_eq!(rt; subst.apply(alloc, &Term::Var(1))?, atom(alloc, b"b")?);
+            assert_eq!(rt; subst.apply(alloc, &left)?, unified);
+            assert_eq!(rt; subst.apply(alloc, &right)?, unified);
+        }
+        Outcome::Clash | Outcome::Occurs => assert!(rt; false),
+    }
+    let inside = pair(alloc, Term::Int(3), Term::Var(0))?;
+    let occurs = unify(alloc, &[Term::Var(0)], &[inside])?;
+    assert!(rt; matches!(occurs, Outcome::Occurs));
+    let clash = unify(alloc, &[atom(alloc, b"a")?], &[atom(alloc, b"b")?])?;
+    assert!(rt; matches!(clash, Outcome::Clash));
+    Ok(())
+}
+
 fn masks(alloc: Global, bits: &[u64]) -> Result<Listed<Mask>, AllocError> {
     let mut masks = Vec::new(alloc);
     for mask in bits {
@@ -204,7 +236,9 @@ fn key(alloc: Global, predicate: &[u8], arity: u32) -> Result<PredKey, AllocErro
 #[test]
 fn names_copy_and_compare(rt: HostRuntime) -> Result<(), Fail> {
     let alloc = rt.alloc();
+    equality_is_exact();
     rows_are_ordered();
+    term_texts_differ();
     texts_differ();
     let row = RowName {
         pred: key(alloc, b"p", 1)?,

@@ -1,5 +1,9 @@
+pub mod Bridge
+pub mod Bundles
 pub mod Digits
 pub mod Ends
 pub mod Joins
-pub mod Steps
-pub mod Values
+pub mod Readings
+pub mod Rows
+pub mod Shapes
+pub mod Walks

@@ -1,11 +1,10 @@
 -- What the words of a command line say: the values of each option and the files, each in order (POSIX.1-2017, Base Definitions, 12.2).
 use Rattle.std.specs.Prelude.{ℕ, List, [], ◌∷◌, ◌++◌, Option, None, Some, option_map, codes, if◌then◌else◌}
 use Rattle.std.specs.Str.{bytes_eq}
-use Rattle.plai_words.specs.declared.option.Key.{Key}
-use Rattle.plai_words.specs.declared.option.Key.TheVariants.{Domain as KeyDomain, Depth as KeyDepth, Rows as KeyRows, Make as KeyMake}
 use Rattle.plai_words.specs.declared.types.DomainName.{DomainName}
 use Rattle.plai_words.specs.declared.types.DomainName.TheVariants.{Ground, Share, Depth}
 use Rattle.plai_words.specs.Numbers.{number}
+use Rattle.plai_words.specs.Options.{Key, Domain as KeyDomain, Depth as KeyDepth, Rows as KeyRows, Make as KeyMake}
 use Rattle.plai_words.specs.Options.{is_dashed, is_option, is_end, named, attached}
 
 -- the values of each option, and the files

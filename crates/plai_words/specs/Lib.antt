@@ -1,5 +1,6 @@
 pub mod Command
 pub mod Given
+pub mod Line
 pub mod Numbers
 pub mod Options
-pub mod Reading
+pub mod Taken

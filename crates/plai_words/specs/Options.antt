@@ -1,9 +1,14 @@
 -- The names of the options, whole, and a value behind `=` (GNU Coding Standards, 4.8; POSIX.1-2017, Base Definitions, 12.2).
-use Rattle.std.specs.Prelude.{ℕ, List, Bool, Option, None, Some, ◌&&◌, nat_eq, nat_lt, length, drop, codes, if◌then◌else◌}
+use Rattle.std.specs.Prelude.{ℕ, List, [], ◌∷◌, Bool, false, Option, None, Some, ◌&&◌, ◌||◌, ◌==◌, not, nat_eq, nat_lt, length, drop, codes, if◌then◌else◌}
 use Rattle.std.specs.List.{starts_with}
 use Rattle.std.specs.Str.{bytes_eq}
-use Rattle.plai_words.specs.declared.option.Key.{Key}
-use Rattle.plai_words.specs.declared.option.Key.TheVariants.{Domain, Depth, Rows, Make}
+
+-- an option
+pub data Key : Type 0 where
+  Domain : Key
+  Depth : Key
+  Rows : Key
+  Make : Key
 
 -- a word that begins with `-`
 unfoldable pub is_dashed : List ℕ → Bool
@@ -12,6 +17,12 @@ is_dashed word = starts_with nat_eq word (codes "-")
 -- a word that begins with `-` and is longer than that
 unfoldable pub is_option : List ℕ → Bool
 is_option word = is_dashed word && nat_lt 1 (length word)
+
+-- one dash, with more behind it that isn't a second one
+unfoldable pub is_bundle : List ℕ → Bool
+is_bundle [] = false
+is_bundle (first ∷ []) = false
+is_bundle (first ∷ second ∷ rest) = (first == 45) && not (second == 45)
 
 -- the word that ends the options
 unfoldable pub is_end : List ℕ → Bool
@@ -42,3 +53,8 @@ attached word =
     (valued Depth (behind (codes "--depth=") word)
     (valued Rows (behind (codes "--rows=") word)
     (valued Make (behind (codes "--make=") word) None)))
+
+-- such a word stands before the first that ends the options
+unfoldable pub has_bundle : List (List ℕ) → Bool
+has_bundle [] = false
+has_bundle (word ∷ rest) = if is_end word then false else (is_bundle word || has_bundle rest)

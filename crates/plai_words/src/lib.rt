@@ -1,12 +1,13 @@
 //! The settings of the command line.
 #![tactic(auto)]
 
+mod bundle;
+mod command;
+mod domain;
 mod fail;
 mod files;
 mod number;
-mod option;
 mod read;
-mod seen;
 mod types;
 
 pub use fail::WordsFail;

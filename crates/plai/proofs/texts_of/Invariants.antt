@@ -1,5 +1,5 @@
 use Rattle.std.proofs.Common.{◌≡◌, map, take, string_bytes}
-use Rattle.plai.specs.Words.{texts}
+use Rattle.plai_words.specs.Command.{texts}
 use Rattle.plai.proofs.texts_of.Given as goal
 
 -- the texts so far are those of the words so far

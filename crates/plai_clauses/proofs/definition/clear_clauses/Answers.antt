@@ -1,4 +1,4 @@
-use Rattle.std.proofs.Common.{◌≡◌, ◌≤◌, sym, length, subst, ℕ, []}
+use Rattle.std.proofs.Common.{◌≤◌, sym, length, subst, ℕ, []}
 use Rattle.plai_clauses.proofs.Changes.{changed_by, changed_not}
 use Rattle.plai_clauses.proofs.definition.clear_clauses.Goals as goal
 

@@ -1,4 +1,4 @@
-use Rattle.std.proofs.Common.{◌≡◌, ◌<◌, ◌∙◌, ap, length, sym, subst, List, ℕ}
+use Rattle.std.proofs.Common.{◌<◌, length, sym, subst, List, ℕ}
 use Rattle.std.specs.List.{remove}
 use Rattle.plai_clauses.specs.declared.clause.Clause.{Clause}
 use Rattle.plai_clauses.specs.Program.{place_in}

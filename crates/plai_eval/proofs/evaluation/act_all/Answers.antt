@@ -1,8 +1,6 @@
-use Rattle.std.proofs.Common.{◌≡◌, ◌+◌, Some, arith}
+use Rattle.std.proofs.Common.{◌≡◌, Some, arith}
 use Rattle.std.proofs.lemmas.Grind.{common_steps}
 use Rattle.plai_domain.specs.Instances.{acts_within}
-use Rattle.plai_domain.specs.Conditions.{AreArguments}
-use Rattle.plai_eval.proofs.Walk.{act_none}
 use Rattle.plai_eval.proofs.Closed.{refined_there}
 use Rattle.plai_eval.proofs.evaluation.act_all.Goals as goal
 

@@ -1,4 +1,4 @@
-use Rattle.std.proofs.Common.{◌≡◌, IfErr, sym, ◌∙◌, subst, rules}
+use Rattle.std.proofs.Common.{IfErr, sym, ◌∙◌, subst, rules}
 use Rattle.plai_eval.specs.Walk.{through}
 use Rattle.plai_eval.specs.Answering.{TellsOver}
 use Rattle.plai_eval.proofs.Walk.{through_answer, through_calls, through_over}

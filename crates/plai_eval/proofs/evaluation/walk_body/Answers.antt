@@ -4,7 +4,7 @@ use Rattle.plai_clauses.specs.WellFormed.{IsLiteral}
 use Rattle.plai_domain.specs.Names.{name_of}
 use Rattle.plai_eval.specs.Evaluation.{Evaluation}
 use Rattle.plai_eval.specs.Walk.{step}
-use Rattle.plai_eval.proofs.Walk.{walk_none, walk_stops}
+use Rattle.plai_eval.proofs.Walk.{walk_stops}
 use Rattle.plai_eval.proofs.Closed.{step_there}
 use Rattle.plai_eval.proofs.evaluation.walk_body.Goals as goal
 

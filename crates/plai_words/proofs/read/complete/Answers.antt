@@ -5,14 +5,14 @@ use Rattle.plai_words.proofs.read.complete.Goals as goal
 pub returns-then-is_some-is_empty : goal.returns-then-is_some-is_empty
 returns-then-is_some-is_empty c = (
   refl,
-  nothing_chosen c.args.seen.domain c.args.seen.depth c.args.seen.rows c.args.seen.make c.args.seen.files.items
-      (differ c.args.seen.make c.args.seen.files.items c.is_some.result c.is_empty.result c.is_some.ensures
+  nothing_chosen c.args.domain c.args.depth c.args.rows c.args.make c.args.files.items
+      (differ c.args.make c.args.files.items c.is_some.result c.is_empty.result c.is_some.ensures
       (rw c.as_slice.ensures.value at c.is_empty.ensures) c.if-is_some-is_empty.true),
 )
 
 pub returns : goal.returns
 returns c =
     rw (c.unwrap_or.ensures, c.unwrap_or-2.ensures, c.from.ensures, c.unwrap_or-3.ensures, c.new.ensures)
-    (chosen_is c.args.seen.domain c.args.seen.depth c.args.seen.rows c.args.seen.make c.args.seen.files.items
-    (agree c.args.seen.make c.args.seen.files.items c.is_some.result c.is_empty.result c.is_some.ensures
+    (chosen_is c.args.domain c.args.depth c.args.rows c.args.make c.args.files.items
+    (agree c.args.make c.args.files.items c.is_some.result c.is_empty.result c.is_some.ensures
     (rw c.as_slice.ensures.value at c.is_empty.ensures) c.if-is_some-is_empty.false))

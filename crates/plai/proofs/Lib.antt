@@ -1,5 +1,0 @@
-mod Arities
-mod Deciding
-mod Outcomes
-mod Reading
-pub mod RowLemmas

@@ -1,5 +1,0 @@
-use Rattle.plai.proofs.Outcomes.{one_outcome}
-use Rattle.plai.proofs.top.outcome_is_one.Goals as goal
-
-pub returns : goal.returns
-returns c = one_outcome c.file_laws.ensures.one c.least_table_is_one.ensures

@@ -1,0 +1,74 @@
+//! Runs plai on the examples in `data`, and tells of each whether it prints the table that stands beside it.
+#![tactic(auto)]
+
+ghost use Rattle.std.specs.Prelude.{◌≡◌, ◌<◌};
+
+use plai_base::{FileLibrary, Library, MemorySink, MemorySource, Steps};
+use plai_domain::Tally;
+use plai_top::run;
+use std::alloc::{AllocError, Global};
+use std::io;
+use std::marker::Brand;
+use std::rt::Files;
+use std::sync::ledger::{Blank, Ledger};
+
+/// More bytes than an example's table has.
+const ROOM: usize = 65_536;
+
+/// The status that plai ends with for these words and no edits, over the system's files.
+fn status<L: Ledger, B: Library>(
+    alloc: Global,
+    words: &[&str],
+    library: &mut B,
+    sink: &mut MemorySink,
+    blank: Blank,
+) -> u8
+    requires name { blank.name ≡ L.name }
+    requires parts { blank.parts ≡ L.parts }
+    requires some { 0 < blank.parts }
+{
+    let mut script = MemorySource::new(Vec::new(alloc), 1, Vec::new(alloc));
+    let mut steps = Steps::<L>::new(blank);
+    run(
+        alloc,
+        words,
+        library,
+        &mut script,
+        sink,
+        &mut Tally::new(),
+        &mut steps,
+    )
+}
+
+/// Whether plai prints, for the modules in these files, the table in that file.
+fn prints_table<B: Library>(
+    alloc: Global,
+    library: &mut B,
+    files: &[&str],
+    table: &str,
+) -> Result<bool, AllocError> {
+    let mut want = Vec::new(alloc);
+    if library.read(alloc, table, &mut want).is_err() {
+        return Ok(false);
+    }
+    let mut sink = MemorySink::new(alloc, ROOM, ROOM, Vec::new(alloc))?;
+    let status = status::<Brand, B>(alloc, files, library, &mut sink, Blank::new(1));
+    Ok(status == 0 && sink.bytes() == want.as_slice())
+}
+
+fn tell<R: Files + Print + AllocGlobal>(rt: &R, files: &[&str], table: &str) -> io::Result<()> {
+    let mut library = FileLibrary::new(rt);
+    let word = if prints_table(rt.alloc(), &mut library, files, table)? {
+        "as expected"
+    } else {
+        "another table"
+    };
+    println!(rt; "{table}: {word}")
+}
+
+fn main(rt: HostRuntime) -> io::Result<()> {
+    tell(&rt, &["app.pl"], "app.table")?;
+    tell(&rt, &["sort.pl", "lists.pl"], "sort.table")?;
+    tell(&rt, &["len.pl"], "len.table")?;
+    tell(&rt, &["deriv.pl"], "deriv.table")
+}

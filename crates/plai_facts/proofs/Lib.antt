@@ -1,9 +1,0 @@
-pub mod Words
-pub mod Complete
-pub mod Sound
-pub mod Formed
-pub mod Files
-pub mod Places
-pub mod Values
-pub mod FactLemmas
-pub mod Steps

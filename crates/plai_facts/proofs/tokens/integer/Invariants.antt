@@ -1,9 +1,0 @@
-use Rattle.std.proofs.Common.{◌≡◌, ◌<◌, ◌^◌, drop}
-use Rattle.plai_facts.specs.Tokens.{value_from}
-use Rattle.plai_facts.proofs.tokens.integer.Given as goal
-
-abbrev pub invariant-loop-digit : goal.invariant-loop-digit
-invariant-loop-digit l = record {
-  small : l.value < 2 ^ 127;
-  rest : value_from l.value (drop l.digit-index l.digits) ≡ value_from 0 l.digits;
-}

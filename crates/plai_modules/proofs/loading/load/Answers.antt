@@ -1,0 +1,18 @@
+use Rattle.std.proofs.Common.{Ok, sym, ap, ◌∙◌}
+use Rattle.std.proofs.lemmas.Result.{err_from_is_err_and}
+use Rattle.std.proofs.lemmas.List.Elements.{All-same}
+use Rattle.plai_sources.specs.WellFormed.{AreWellFormedItems}
+use Rattle.plai_modules.proofs.Passes.{texts_of, load_fails, load_links}
+use Rattle.plai_modules.proofs.loading.load.Goals as goal
+
+pub returns-in_err-read-clause-answer : goal.returns-in_err-read-clause-answer
+returns-in_err-read-clause-answer c =
+    let p = err_from_is_err_and c.from_residual.result c.from_residual.ensures.1 in
+    rw (p.1, p.2) (load_fails (texts_of c.args.files.now) c.in_err-read.field-0.0 c.in_err-read.ensures.answer)
+
+pub program_of-requires-clause-items : goal.program_of-requires-clause-items
+program_of-requires-clause-items c = All-same AreWellFormedItems c.as_slice.result.now c.in_ok-read.read c.as_slice.ensures c.in_ok-read.ensures.well_formed
+
+pub returns-clause-answer : goal.returns-clause-answer
+returns-clause-answer c =
+    load_links (texts_of c.args.files.now) c.as_slice.result.now c.program_of.result (c.in_ok-read.ensures.answer ∙ ap Ok (sym c.as_slice.ensures)) c.program_of.ensures.answer

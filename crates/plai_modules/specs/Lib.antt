@@ -1,0 +1,4 @@
+pub mod Steps
+pub mod Importing
+pub mod Loading
+pub mod Outcomes

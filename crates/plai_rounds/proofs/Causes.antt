@@ -1,0 +1,90 @@
+-- Why rounds stop: too many names, or a set of too many groups.
+use Rattle.std.proofs.Common.{◌≡◌, ℕ, ◌+◌, ◌≤◌, List, [], ◌∷◌, ◌++◌, map, length, Option, None, refl, subst, inl, inr, arith}
+use Rattle.plai_theory.specs.Words.{IsIn, AreDistinct}
+use Rattle.plai_theory.specs.Domain.{Domain, Program, Name}
+use Rattle.plai_theory.specs.Domain as theory
+use Rattle.plai_theory.specs.LeastTable.{Row}
+use Rattle.plai_theory.specs.Tables.{source_of}
+use Rattle.plai_theory.specs.Rounds.{IsAsked, IsMade, Add}
+use Rattle.plai_theory.proofs.Rounds.{made_low, from_below}
+use Rattle.plai_theory.proofs.Near.{IsNear}
+use Rattle.plai_theory.proofs.Count.{near_row}
+use Rattle.plai_theory.proofs.Over.{near_over}
+use Rattle.plai_terms.specs.declared.abs.Abs.{Abs}
+use Rattle.plai_terms.specs.declared.pred_key.PredKey.{PredKey}
+use Rattle.plai_domain.specs.declared.key.Key.{Key}
+use Rattle.plai_domain.specs.Plain.{PlainDomain}
+use Rattle.plai_domain.specs.Laws.{IsLawful}
+use Rattle.plai_clauses.specs.declared.clause.Clause.{Clause}
+use Rattle.plai_clauses.specs.Program.{ProgramView, clauses_of}
+use Rattle.plai_clauses.specs.WellFormed.{IsWellFormed}
+use Rattle.plai_eval.specs.Meaning.{as_domain, as_limits, as_program}
+use Rattle.plai_eval.specs.LeastTable.{row_of, before}
+use Rattle.plai_eval.proofs.One.{strict}
+use Rattle.plai_eval.proofs.Lawful.{lawful_at, limits_at}
+use Rattle.plai_rounds.specs.declared.analyse_fail.AnalyseFail.{AnalyseFail}
+use Rattle.plai_rounds.specs.declared.analyse_fail.AnalyseFail.TheVariants.{Memory, Rows, Groups}
+use Rattle.plai_rounds.specs.Names.{rows_of, names_of}
+use Rattle.plai_rounds.specs.Adding.{IsFull, StopsAdding}
+use Rattle.plai_rounds.specs.Making.{IsMaking, TellsOver}
+use Rattle.plai_rounds.specs.Causes.{AreTooMany, HasCause}
+use Rattle.plai_rounds.proofs.Lists.{length_map}
+use Rattle.plai_rounds.proofs.Making.{names_same, has_name, names_distinct, adds_making}
+
+module _ (p : PlainDomain) (laws : IsLawful p) (program : ProgramView) (good : IsWellFormed program) (limit : ℕ) where
+  theory_laws : theory.IsLawful (as_domain p) (as_program p program)
+  theory_laws = lawful_at p laws program good
+
+  -- so many different names, each near to what stages reach, lie at or below those of the least table
+  pub too_many : (names : List (Name PredKey Abs)) → length names ≡ limit + 1 → AreDistinct names
+      → ((x : Name PredKey Abs) → IsIn x names → IsNear (as_domain p) (as_program p program) x) → AreTooMany p program limit
+  too_many names long distinct near table least =
+      (names, long, distinct, λ x i. near_row (as_domain p) (as_program p program) theory_laws (before p) (strict p) least.0 (map (row_of p) table) least.1 x (near x i))
+
+  pub made_near : (rows : List (Row (as_domain p))) → IsMade (as_domain p) (as_program p program) rows → (x : Name PredKey Abs) → IsIn x (names_of p rows)
+      → IsNear (as_domain p) (as_program p program) x
+  made_near rows made x i =
+      let (r, j, e) = has_name p rows x i in
+      subst (λ y. IsNear (as_domain p) (as_program p program) y) e ((made_low (as_domain p) (as_program p program) theory_laws made).each r j).near
+
+  asked_near : (rows seen : List (Row (as_domain p))) → IsMade (as_domain p) (as_program p program) rows → IsMade (as_domain p) (as_program p program) seen
+      → (x : Name PredKey Abs) → IsAsked (as_domain p) (as_program p program) seen x → IsNear (as_domain p) (as_program p program) x
+  asked_near rows seen made made_seen x ask =
+      ((made_low (as_domain p) (as_program p program) theory_laws (Add x made made_seen ask)).each (record { name = x; answer = None }) (last rows)).near
+    where
+      last : (rows : List (Row (as_domain p))) → IsIn (let r : Row (as_domain p) = record { name = x; answer = None } in r) (rows ++ record { name = x; answer = None } ∷ [])
+      last [] = inl refl
+      last (r ∷ rows) = inr (last rows)
+
+  -- Theorem: adding names that are asked for stops only where there are too many.
+  pub adding_cause : (V : Type 0) (value_of : V → Abs) (names : List (Name PredKey Abs)) (old : List (Key V × Option V)) (seen : List (Row (as_domain p)))
+      → IsMade (as_domain p) (as_program p program) seen → ((x : Name PredKey Abs) → IsIn x names → IsAsked (as_domain p) (as_program p program) seen x)
+      → IsMaking p program limit (rows_of value_of p old) → (fail : AnalyseFail) → StopsAdding V value_of limit names old fail → HasCause p program limit fail
+  adding_cause V value_of names old seen made asked making Memory stop = tt
+  adding_cause V value_of names old seen made asked making (Rows n) (e, full) =
+      let mid : IsMaking p program limit (rows_of value_of p full.rows) = adds_making V value_of limit names old p program seen made asked making full.adds in
+      let rows : List (Row (as_domain p)) = rows_of value_of p full.rows in
+      let k : length (rows_of value_of p full.rows) ≡ length full.rows = length_map _ full.rows in
+      let l : length (names_of p (rows_of value_of p full.rows)) ≡ length (rows_of value_of p full.rows) = length_map _ (rows_of value_of p full.rows) in
+      let few : length (rows_of value_of p full.rows) ≤ limit = mid.few in
+      let much : limit ≤ length full.rows = full.full in (
+        e,
+        too_many (full.name ∷ names_of p (rows_of value_of p full.rows)) (omega arith)
+            (λ i. full.absent (subst (IsIn full.name) (names_same value_of p full.rows) i), names_distinct p (rows_of value_of p full.rows) mid.distinct)
+            (λ x i. near x full mid i),
+      )
+    where
+      near : (x : Name PredKey Abs) (full : IsFull V value_of limit names old) → IsMaking p program limit (rows_of value_of p full.rows) → IsIn x (full.name ∷ names_of p (rows_of value_of p full.rows))
+          → IsNear (as_domain p) (as_program p program) x
+      near x full mid (inl e) = subst (IsNear (as_domain p) (as_program p program)) e (asked_near (rows_of value_of p full.rows) seen mid.made made full.name (asked full.name full.is_name))
+      near x full mid (inr i) = made_near (rows_of value_of p full.rows) mid.made x i
+  adding_cause V value_of names old seen made asked making (Groups row clause literal place) stop = absurd stop
+
+  -- Theorem: an evaluation of a row that rounds make forms a set of too many groups only where the program does.
+  pub over_cause : (rows : List (Row (as_domain p))) → IsMade (as_domain p) (as_program p program) rows → (x : Name PredKey Abs) → IsNear (as_domain p) (as_program p program) x
+      → (clause : Clause) → IsIn clause (clauses_of program x.pred) → (fail : AnalyseFail) → TellsOver p rows clause x.call fail → HasCause p program limit fail
+  over_cause rows made x near clause i Memory told = tt
+  over_cause rows made x near clause i (Rows n) told = absurd told
+  over_cause rows made x near clause i (Groups row number literal place) told =
+      near_over (as_domain p) (as_program p program) theory_laws (as_limits p) (limits_at p laws program good) (source_of (as_domain p) rows)
+      (from_below (as_domain p) (as_program p program) theory_laws rows (made_low (as_domain p) (as_program p program) theory_laws made)) x near clause i told

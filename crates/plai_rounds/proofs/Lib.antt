@@ -1,0 +1,15 @@
+pub mod Lists
+pub mod Lookup
+pub mod Adding
+pub mod Evaluated
+pub mod Fits
+pub mod Making
+pub mod Raising
+pub mod Steps
+pub mod Causes
+pub mod Ends
+pub mod Working
+pub mod Sweeping
+pub mod Reaching
+pub mod Narrow
+pub mod LeastRows

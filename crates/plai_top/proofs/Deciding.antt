@@ -1,0 +1,179 @@
+-- From the phases of a call to its outcomes.
+use Rattle.std.proofs.Common.{◌≡◌, ◌≢◌, ◌≤◌, ◌⊎◌, ℕ, List, [], None, Some, Ok, Err, IfSome, IfOk, IfErr, IsErrAnd, MatchResult, map, Vec, true, false, refl, ap, ◌∙◌, sym, subst, inl, inr}
+use Rattle.std.specs.declared.alloc.Global.{Global}
+use Rattle.std.specs.declared.option.Option.{Option}
+use Rattle.std.specs.declared.result.Result.{Result}
+use Rattle.plai_base.specs.Texts.{TextMap}
+use Rattle.plai_clauses.specs.Program.{ProgramView}
+use Rattle.plai_modules.specs.Loading.{Refusal, loaded}
+use Rattle.plai_modules.specs.declared.text.NamedText.{NamedText}
+use Rattle.plai_words.specs.declared.types.Settings.{Settings}
+use Rattle.plai_top.specs.Commands.{IsCommand}
+use Rattle.plai_top.specs.Files.{texts_of, AreShort, IsSomeLong, is_built_program, HasFiles}
+use Rattle.plai_top.specs.Loadings.{IsLoading, IsPrepared}
+use Rattle.plai_top.specs.Outcome.{Outcome, silent, refused_by, IsByWords, IsEarly, by_words, too_long, refused, unbuilt, IsAnalysed, IsOutcome, early, scripted, analysed}
+use Rattle.plai_top.specs.Outputs.{outcome_of, KeepsWords, KeepsEarly}
+use Rattle.plai_top.specs.Stops.{status_of, IsReadEnd}
+use Rattle.plai_top.specs.Told.{IfBothTold}
+use Rattle.plai_top.specs.declared.loading.Loading.{Loading}
+use Rattle.plai_top.specs.declared.loading.Loading.TheVariants.{Program, Refused}
+use Rattle.plai_top.specs.declared.output.Output.{Output}
+use Rattle.plai_top.specs.declared.stop.Stop.{Stop}
+use Rattle.plai_top.specs.declared.top.Prepared.{Prepared}
+use Rattle.plai_top.specs.declared.stop.Stop.TheVariants.{NoCommand, TooLarge, ReadFault, WriteFault, Memory, NotBuilt}
+use Rattle.plai_top.proofs.Outcomes.{words_are_one, not_by_words, early_is_one, program_not_early}
+
+-- ---- the words
+
+-- a stop by the words keeps what they decide
+pub stop_keeps_words : (A : Type 0) (words : List (List ℕ)) (stop : Stop) → (stop ≡ Memory) ⊎ IsByWords words (silent (status_of stop))
+    → KeepsWords {A = A} words (Err stop)
+stop_keeps_words A words stop (inl memory) outcome is = inr memory
+stop_keeps_words A words stop (inr by) outcome is = inl (words_are_one words _ outcome by is)
+
+-- a command that is carried out keeps it too
+pub command_keeps_words : (A : Type 0) (words : List (List ℕ)) (settings : Settings) (result : Result A Stop) → IsCommand words settings
+    → KeepsWords {A = A} words result
+command_keeps_words A words settings result command outcome is = absurd (not_by_words words settings command outcome is)
+
+-- what the words decide is early
+pub words_decide : (words : List (List ℕ)) (told : Option TextMap) (stop : Stop) → (stop ≡ Memory) ⊎ IsByWords words (silent (status_of stop))
+    → IfSome told (λ files. IsReadEnd stop ⊎ IsEarly words files (silent (status_of stop)))
+words_decide words None stop decides = tt
+words_decide words (Some files) stop (inl memory) = inl (inr memory)
+words_decide words (Some files) stop (inr by) = inr (by_words _ by)
+
+-- ---- the files
+
+module _ (words : List (List ℕ)) (settings : Settings) (command : IsCommand words settings) where
+  -- a file that is too long
+  long_decides : (told : Option TextMap) (stop : Stop) → IsReadEnd stop ⊎ ((stop ≡ TooLarge) × IfSome told (λ files. IsSomeLong files settings.files))
+      → IfSome told (λ files. IsReadEnd stop ⊎ IsEarly words files (silent (status_of stop)))
+  long_decides None stop decides = tt
+  long_decides (Some files) stop (inl read) = inl read
+  long_decides (Some files) stop (inr (is, long)) = inr (rw is (too_long settings command long))
+
+  pub files_decide : (seen : List (List ℕ)) → seen ≡ settings.files → (told : Option TextMap) (stop : Stop)
+      → IsReadEnd stop ⊎ ((stop ≡ TooLarge) × IfSome told (λ files. IsSomeLong files seen))
+      → IfSome told (λ files. IsReadEnd stop ⊎ IsEarly words files (silent (status_of stop)))
+  files_decide seen same told stop decides =
+      long_decides told stop (subst (λ names. IsReadEnd stop ⊎ ((stop ≡ TooLarge) × IfSome told (λ files. IsSomeLong files names))) same decides)
+
+  -- the files have the names and texts that loading is given
+  module _ (names texts : List (List ℕ)) (are_names : names ≡ settings.files) where
+    program_decides : (told : Option TextMap) (stop : Stop) → IfSome told (λ files. texts ≡ texts_of files settings.files)
+        → IfSome told (λ files. AreShort files settings.files)
+        → (stop ≡ Memory) ⊎ ((stop ≡ NotBuilt) × ((program : ProgramView) × (loaded texts ≡ Ok program) × (is_built_program program ≡ false)))
+        → IfSome told (λ files. IsReadEnd stop ⊎ IsEarly words files (silent (status_of stop)))
+    program_decides None stop are short decides = tt
+    program_decides (Some files) stop are short (inl memory) = inl (inr memory)
+    program_decides (Some files) stop are short (inr (is, (program, loads, fails))) =
+        inr (rw is (unbuilt settings program (record { given = record { command = command; short = short }; loads = sym (ap loaded are) ∙ loads }) fails))
+
+    program_prepares : (told : Option TextMap) (loading : Loading) → IfSome told (λ files. texts ≡ texts_of files settings.files)
+        → IfSome told (λ files. AreShort files settings.files) → IsLoading names texts loading
+        → IfSome told (λ files. IsPrepared words files settings.rows loading)
+    program_prepares None loading are short loads = tt
+    program_prepares (Some files) (Program program) are short (loads, holds) =
+        (settings, refl, record { given = record { command = command; short = short }; loads = sym (ap loaded are) ∙ loads }, holds)
+    program_prepares (Some files) (Refused line) are short (refusal, loads, is) =
+        let has : HasFiles words files settings = record { command = command; short = short } in
+        let same : refused_by settings.files refusal ≡ record { status = 3; bytes = line.items } = ap (λ ns. refused_by ns refusal) (sym are_names) ∙ is in
+        subst (IsEarly words files) same (refused settings refusal (record { given = has; loads = sym (ap loaded are) ∙ loads }))
+
+  -- the files were read by the names seen, and given to loading
+  module _ (seen : List (List ℕ)) (same : seen ≡ settings.files) (read given : List NamedText) (are : given ≡ read) (named : map (λ f. f.name) read ≡ seen) (told : Option TextMap)
+      (texts : IfSome told (λ files. map (λ f. f.text) read ≡ texts_of files seen)) (short : IfSome told (λ files. AreShort files seen)) where
+    own_texts : IfSome told (λ files. map (λ f. f.text) given ≡ texts_of files settings.files)
+    own_texts =
+        let of_read : IfSome told (λ files. map (λ f. f.text) read ≡ texts_of files settings.files) = subst (λ ns. IfSome told (λ files. map (λ f. f.text) read ≡ texts_of files ns)) same texts in
+        subst (λ fs. IfSome told (λ files. map (λ f. f.text) fs ≡ texts_of files settings.files)) (sym are) of_read
+
+    own_names : map (λ f. f.name) given ≡ settings.files
+    own_names = ap (λ fs. map (λ f. f.name) fs) are ∙ named ∙ same
+
+    own_short : IfSome told (λ files. AreShort files settings.files)
+    own_short = subst (λ ns. IfSome told (λ files. AreShort files ns)) same short
+
+    -- loading stops the call
+    pub loading_decides : (stop : Stop)
+        → (stop ≡ Memory) ⊎ ((stop ≡ NotBuilt) × ((program : ProgramView) × (loaded (map (λ f. f.text) given) ≡ Ok program) × (is_built_program program ≡ false)))
+        → IfSome told (λ files. IsReadEnd stop ⊎ IsEarly words files (silent (status_of stop)))
+    loading_decides stop decides = program_decides (map (λ f. f.name) given) (map (λ f. f.text) given) own_names told stop own_texts own_short decides
+
+    -- loading made a program or a line
+    pub loading_prepares : (loading : Loading) → IsLoading (map (λ f. f.name) given) (map (λ f. f.text) given) loading
+        → IfSome told (λ files. IsPrepared words files settings.rows loading)
+    loading_prepares loading loads = program_prepares (map (λ f. f.name) given) (map (λ f. f.text) given) own_names told loading own_texts own_short loads
+
+-- ---- the outcomes
+
+abbrev IsOutcomeOf : List (List ℕ) → TextMap → List ℕ → Result Output Stop → Type 0
+IsOutcomeOf words files script result =
+    MatchResult result (λ output. IsOutcome words files script (outcome_of output))
+    (λ stop. IsReadEnd stop ⊎ IsOutcome words files script (silent (status_of stop)))
+
+-- a stop before the script
+pub stop_outcome : (words : List (List ℕ)) (told : Option TextMap) (left : Option (List ℕ)) (stop : Stop)
+    → IfSome told (λ files. IsReadEnd stop ⊎ IsEarly words files (silent (status_of stop)))
+    → IfBothTold told left (λ files text. IsReadEnd stop ⊎ IsOutcome words files text (silent (status_of stop)))
+stop_outcome words None left stop ends = tt
+stop_outcome words (Some files) None stop ends = tt
+stop_outcome words (Some files) (Some text) stop (inl read) = inl read
+stop_outcome words (Some files) (Some text) stop (inr is) = inr (early _ is)
+
+module _ (words : List (List ℕ)) (told : Option TextMap) (prepared : Prepared) (has : IfSome told (λ files. IsPrepared words files prepared.rows prepared.loading)) where
+  pub as_program : (rows : ℕ) (program : ProgramView) → prepared.rows ≡ rows → prepared.loading ≡ Program program
+      → IfSome told (λ files. IsPrepared words files rows (Program program))
+  as_program rows program limit is =
+      subst (λ n. IfSome told (λ files. IsPrepared words files n (Program program))) limit (subst (λ l. IfSome told (λ files. IsPrepared words files prepared.rows l)) is has)
+
+  pub as_line : (line : Vec ℕ Global) → prepared.loading ≡ Refused line → IfSome told (λ files. IsEarly words files (record { status = 3; bytes = line.items }))
+  as_line line is = subst (λ l. IfSome told (λ files. IsPrepared words files prepared.rows l)) is has
+
+-- a line of a refusal
+pub line_outcome : (words : List (List ℕ)) (told : Option TextMap) (left : Option (List ℕ)) (outcome : Outcome)
+    → IfSome told (λ files. IsEarly words files outcome) → IfBothTold told left (λ files text. IsOutcome words files text outcome)
+line_outcome words None left outcome is = tt
+line_outcome words (Some files) None outcome is = tt
+line_outcome words (Some files) (Some text) outcome is = early _ is
+
+module _ (words : List (List ℕ)) (rows : ℕ) (program : ProgramView) where
+  -- the script stops the call
+  pub script_outcome : (told : Option TextMap) (left : Option (List ℕ)) (stop : Stop) → IfSome told (λ files. IsPrepared words files rows (Program program))
+      → IsReadEnd stop ⊎ ((stop ≡ NotBuilt) × IfSome left (λ text. text ≢ []))
+      → IfBothTold told left (λ files text. IsReadEnd stop ⊎ IsOutcome words files text (silent (status_of stop)))
+  script_outcome None left stop prepared ends = tt
+  script_outcome (Some files) None stop prepared ends = tt
+  script_outcome (Some files) (Some text) stop prepared (inl read) = inl read
+  script_outcome (Some files) (Some text) stop (settings, limit, has, holds) (inr (is, some)) = inr (rw is (scripted settings program has holds some))
+
+  -- the analysis
+  pub analysis_outcome : (told : Option TextMap) (left : Option (List ℕ)) (result : Result Output Stop)
+      → IfSome told (λ files. IsPrepared words files rows (Program program)) → IfSome left (λ text. text ≡ [])
+      → IfOk result (λ output. IsAnalysed program rows (outcome_of output)) → IfErr result (λ stop. stop ≡ Memory)
+      → IfBothTold told left (λ files text. IsOutcomeOf words files text result)
+  analysis_outcome None left result prepared empty made stops = tt
+  analysis_outcome (Some files) None result prepared empty made stops = tt
+  analysis_outcome (Some files) (Some text) (Ok output) (settings, limit, has, holds) empty made stops =
+      analysed settings program _ (record { loaded = has; built = holds; empty = empty }) (subst (λ n. IsAnalysed program n (outcome_of output)) (sym limit) made)
+  analysis_outcome (Some files) (Some text) (Err stop) prepared empty made stops = inl (inr stops)
+
+  -- nothing is decided early
+  pub program_keeps_early : (told : Option TextMap) (result : Result Output Stop) (P : Type 0)
+      → IfSome told (λ files. IsPrepared words files rows (Program program)) → IfSome told (λ files. KeepsEarly words files result P)
+  program_keeps_early None result P prepared = tt
+  program_keeps_early (Some files) result P (settings, limit, has, holds) = λ outcome is. absurd (program_not_early words files settings program has holds outcome is)
+
+pub line_keeps_early : (words : List (List ℕ)) (told : Option TextMap) (output : Output) (P : Type 0) → IfSome told (λ files. IsEarly words files (outcome_of output))
+    → IfSome told (λ files. KeepsEarly words files (Ok output) P)
+line_keeps_early words None output P is = tt
+line_keeps_early words (Some files) output P is = λ outcome other. early_is_one words files _ outcome is other
+
+pub stop_keeps_early : (words : List (List ℕ)) (told : Option TextMap) (stop : Stop) (P : Type 0)
+    → IfSome told (λ files. IsReadEnd stop ⊎ IsEarly words files (silent (status_of stop))) → ((stop ≡ ReadFault) → P)
+    → IfSome told (λ files. KeepsEarly words files (Err stop) P)
+stop_keeps_early words None stop P ends failed = tt
+stop_keeps_early words (Some files) stop P (inl (inl fault)) failed = λ outcome other. inr (inl (fault, failed fault))
+stop_keeps_early words (Some files) stop P (inl (inr memory)) failed = λ outcome other. inr (inr memory)
+stop_keeps_early words (Some files) stop P (inr is) failed = λ outcome other. inl (early_is_one words files _ outcome is other)

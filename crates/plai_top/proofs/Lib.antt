@@ -1,0 +1,5 @@
+mod Analysed
+mod Deciding
+mod Endings
+mod Outcomes
+mod Reading

@@ -1,0 +1,68 @@
+-- How a call ends: its answer, and what the sink took, beside an outcome.
+use Rattle.std.specs.Prelude.{ℕ, ◌≡◌, ◌≢◌, ◌⊎◌, List, [], take}
+use Rattle.std.specs.Io.KnownBytes.{Appends, Keeps}
+use Rattle.std.specs.declared.option.Option.{Option}
+use Rattle.plai_base.specs.Texts.{TextMap}
+use Rattle.plai_top.specs.Outcome.{Outcome, IsByWords, IsEarly, IsOutcome, IsBlock}
+
+-- a prefix of the bytes was taken
+abbrev pub TookPrefix : Option (List ℕ) → Option (List ℕ) → List ℕ → Type 0
+TookPrefix before after bytes = (n : ℕ) × Appends before after (take n bytes)
+
+-- the outcome came, all of it
+abbrev pub Comes : ℕ → Option (List ℕ) → Option (List ℕ) → Outcome → Type 0
+Comes result before after outcome = (result ≡ outcome.status) × Appends before after outcome.bytes
+
+-- the outcome came; or a read failed, and nothing was written; or a write failed, and there was something to
+-- write; or memory ran out
+abbrev pub EndsBy : ℕ → Option (List ℕ) → Option (List ℕ) → Outcome → Type 0
+EndsBy result before after outcome =
+    Comes result before after outcome
+    ⊎ ((result ≡ 5) × Keeps before after)
+    ⊎ ((result ≡ 6) × (outcome.bytes ≢ []) × TookPrefix before after outcome.bytes)
+    ⊎ ((result ≡ 7) × TookPrefix before after outcome.bytes)
+
+-- a read or a write failed, or memory ran out
+abbrev pub IsFault : ℕ → Type 0
+IsFault result = (result ≡ 5) ⊎ (result ≡ 6) ⊎ (result ≡ 7)
+
+-- the answer is a fault's, or some outcome came
+abbrev pub IsFaultOrComes : List (List ℕ) → TextMap → List ℕ → ℕ → Option (List ℕ) → Option (List ℕ) → Type 0
+IsFaultOrComes words files script result before after =
+    IsFault result ⊎ ((outcome : Outcome) × IsOutcome words files script outcome × Comes result before after outcome)
+
+-- the outcome is a block, and the call ended by the other block that may come
+abbrev pub EndsByOther : List (List ℕ) → TextMap → List ℕ → ℕ → Option (List ℕ) → Option (List ℕ) → Outcome → Type 0
+EndsByOther words files script result before after outcome =
+    IsBlock outcome × ((other : Outcome) × IsOutcome words files script other × IsBlock other × EndsBy result before after other)
+
+-- however the outcome is, the call ended by it, or, where it is a block, by the other block that may come
+abbrev pub EndsByEach : List (List ℕ) → TextMap → List ℕ → ℕ → Option (List ℕ) → Option (List ℕ) → Type 0
+EndsByEach words files script result before after =
+    (outcome : Outcome) → IsOutcome words files script outcome
+    → EndsBy result before after outcome ⊎ EndsByOther words files script result before after outcome
+
+-- what the words decide came, unless memory ran out
+abbrev pub EndsByWords : List (List ℕ) → ℕ → Type 0
+EndsByWords words result = (outcome : Outcome) → IsByWords words outcome → (result ≡ outcome.status) ⊎ (result ≡ 7)
+
+-- the call ended by what the words and the files decide, and a read failed only in the library
+abbrev pub EndsEarly : List (List ℕ) → TextMap → ℕ → Option (List ℕ) → Option (List ℕ) → Type 0 → Type 0
+EndsEarly words files result before after LibraryFailed = (outcome : Outcome) → IsEarly words files outcome
+    → EndsBy result before after outcome × (result ≡ 5 → LibraryFailed)
+
+-- a status at which nothing is written
+abbrev pub IsSilent : ℕ → Type 0
+IsSilent result = (result ≡ 2) ⊎ (result ≡ 4) ⊎ (result ≡ 5) ⊎ (result ≡ 8)
+
+-- a status that is decided before the script is read
+abbrev pub IsBeforeScript : ℕ → Type 0
+IsBeforeScript result = (result ≡ 2) ⊎ (result ≡ 3) ⊎ (result ≡ 4)
+
+-- a status that is decided before the analysis
+abbrev pub IsBeforeWork : ℕ → Type 0
+IsBeforeWork result = IsSilent result ⊎ (result ≡ 3)
+
+-- the statuses
+abbrev pub IsStatus : ℕ → Type 0
+IsStatus result = (result ≡ 0) ⊎ (result ≡ 1) ⊎ (result ≡ 2) ⊎ (result ≡ 3) ⊎ (result ≡ 4) ⊎ IsFault result ⊎ (result ≡ 8)

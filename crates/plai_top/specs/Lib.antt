@@ -1,0 +1,9 @@
+pub mod Commands
+pub mod Ending
+pub mod Files
+pub mod Loadings
+pub mod Outcome
+pub mod Outputs
+pub mod Refusal
+pub mod Stops
+pub mod Told

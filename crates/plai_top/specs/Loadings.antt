@@ -1,0 +1,27 @@
+-- What loading made of the files of a command.
+use Rattle.std.specs.Prelude.{◌≡◌, ◌≢◌, ℕ, List, [], Ok, Err, true}
+use Rattle.plai_base.specs.Texts.{TextMap}
+use Rattle.plai_clauses.specs.WellFormed.{IsWellFormed}
+use Rattle.plai_modules.specs.Loading.{Refusal, loaded}
+use Rattle.plai_words.specs.declared.types.Settings.{Settings}
+use Rattle.plai_top.specs.Files.{is_built_program, HasProgram}
+use Rattle.plai_top.specs.Outcome.{Outcome, refused_by, IsEarly}
+use Rattle.plai_top.specs.declared.loading.Loading.{Loading}
+use Rattle.plai_top.specs.declared.loading.Loading.TheVariants.{Program, Refused}
+
+-- files of these names and texts make this: a program that is analysed as yet, or the line of a refusal
+abbrev pub IsLoading : List (List ℕ) → List (List ℕ) → Loading → Type 0
+IsLoading names texts (Program program) = (loaded texts ≡ Ok program) × (is_built_program program ≡ true)
+IsLoading names texts (Refused line) =
+    (refusal : Refusal) × (loaded texts ≡ Err refusal) × (refused_by names refusal ≡ record { status = 3; bytes = line.items })
+
+-- the words and the files make this, under that limit of rows
+abbrev pub IsPrepared : List (List ℕ) → TextMap → ℕ → Loading → Type 0
+IsPrepared words files rows (Program program) =
+    (settings : Settings) × (settings.rows ≡ rows) × HasProgram words files settings program × (is_built_program program ≡ true)
+IsPrepared words files rows (Refused line) = IsEarly words files (record { status = 3; bytes = line.items })
+
+-- a loaded program is well formed, and a line has bytes
+abbrev pub IsWellFormedLoading : Loading → Type 0
+IsWellFormedLoading (Program program) = IsWellFormed program
+IsWellFormedLoading (Refused line) = line.items ≢ []

@@ -1,0 +1,17 @@
+-- What a stop says of a call.
+use Rattle.std.specs.Prelude.{ℕ, ◌≡◌, ◌⊎◌, List}
+use Rattle.plai_top.specs.declared.stop.Stop.{Stop}
+use Rattle.plai_top.specs.declared.stop.Stop.TheVariants.{NoCommand, TooLarge, ReadFault, WriteFault, Memory, NotBuilt}
+
+-- the status that a call ends with
+abbrev pub status_of : Stop → ℕ
+status_of NoCommand = 2
+status_of TooLarge = 4
+status_of ReadFault = 5
+status_of WriteFault = 6
+status_of Memory = 7
+status_of NotBuilt = 8
+
+-- a read failed, or memory ran out
+abbrev pub IsReadEnd : Stop → Type 0
+IsReadEnd stop = (stop ≡ ReadFault) ⊎ (stop ≡ Memory)

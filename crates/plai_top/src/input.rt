@@ -1,0 +1,98 @@
+// The files and the script.
+ghost use Rattle.std.specs.Prelude.{◌≡◌, ◌≢◌, ◌<◌, ◌≤◌, ◌⊎◌, [], All, length, map, IfSome, IfOk, IfErr, OnOk, IsErrOf};
+ghost use Rattle.std.specs.Io.KnownBytes.{IsAtEnd};
+ghost use Rattle.plai_base.specs.Causes.{Rose};
+ghost use Rattle.plai_base.specs.Texts.{text_of, longest_text};
+ghost use Rattle.plai_top.specs.Files.{texts_of, AreShort, IsSomeLong};
+ghost use Rattle.plai_top.specs.Stops.{IsReadEnd};
+
+use crate::stop::Stop;
+use plai_base::{Library, ReadFail, Source, read_whole};
+use plai_modules::NamedText;
+use plai_terms::{Listed, Name};
+use plai_words::Text;
+use std::alloc::{AllocError, Global};
+
+/// The most bytes of the script: 16 mebibytes.
+const MAX_SCRIPT: usize = 16_777_216;
+
+/// A text with its name.
+fn named(alloc: Global, name: &Text, text: Vec<u8>) -> Result<NamedText, AllocError>
+    ensures name { IfOk result (λ file. file.name ≡ name.now) }
+    ensures text { IfOk result (λ file. file.text ≡ text.items) }
+{
+    let bytes = name.as_str().as_bytes();
+    Ok(NamedText {
+        name: Name::new(Vec::from_slice(alloc, bytes)?),
+        text: Listed::new(text),
+    })
+}
+
+/// Reads a file.
+fn read_file<B: Library>(alloc: Global, name: &Text, library: &mut B) -> Result<NamedText, Stop>
+    ensures name { IfOk result (λ file. file.name ≡ name.now) }
+    ensures text { IfOk result (λ file. IfSome (B.files library.old) (λ files. file.text ≡ text_of files name.now)) }
+    ensures short { IfOk result (λ file. length file.text ≤ longest_text) }
+    ensures stop { IfErr result (λ stop. IsReadEnd stop ⊎
+        ((stop ≡ Stop.TooLarge) × IfSome (B.files library.old) (λ files. longest_text < length (text_of files name.now)))) }
+    ensures same { B.files library.new ≡ B.files library.old }
+    ensures later { B.faults library.old ≤ B.faults library.new }
+    ensures failed { IsErrOf result Stop.ReadFault → Rose (B.faults library.old) (B.faults library.new) }
+{
+    let mut text = Vec::new(alloc);
+    match library.read(alloc, name.as_str(), &mut text) {
+        Ok(()) => match named(alloc, name, text) {
+            Ok(file) => Ok(file),
+            Err(_) => Err(Stop::Memory),
+        },
+        Err(ReadFail::TooLong) => Err(Stop::TooLarge),
+        Err(ReadFail::Failed) => Err(Stop::ReadFault),
+        Err(ReadFail::Memory) => Err(Stop::Memory),
+    }
+}
+
+/// Reads the files in order, until one is too long or a read fails.
+pub fn read_files<B: Library>(
+    alloc: Global,
+    names: &[Text],
+    library: &mut B,
+) -> Result<Vec<NamedText>, Stop>
+    ensures names { IfOk result (λ files. map (λ f. f.name) files.items ≡ names.now) }
+    ensures texts { IfOk result (λ files. IfSome (B.files library.old) (λ told. map (λ f. f.text) files.items ≡ texts_of told names.now)) }
+    ensures short { IfOk result (λ files. All (λ f. length f.text ≤ longest_text) files.items) }
+    ensures told_short { OnOk result (IfSome (B.files library.old) (λ told. AreShort told names.now)) }
+    ensures stop { IfErr result (λ stop. IsReadEnd stop ⊎
+        ((stop ≡ Stop.TooLarge) × IfSome (B.files library.old) (λ told. IsSomeLong told names.now))) }
+    ensures later { B.faults library.old ≤ B.faults library.new }
+    ensures failed { IsErrOf result Stop.ReadFault → Rose (B.faults library.old) (B.faults library.new) }
+{
+    let mut files = Vec::new(alloc);
+    for name in names {
+        match read_file(alloc, name, library) {
+            Ok(file) => match files.push(file) {
+                Ok(()) => {}
+                Err(_) => return Err(Stop::Memory),
+            },
+            Err(stop) => return Err(stop),
+        }
+    }
+    Ok(files)
+}
+
+/// Reads the script to its end, and tests that it has no byte.
+pub fn read_script<S: Source>(alloc: Global, script: &mut S) -> Result<(), Stop>
+    ensures empty { OnOk result (IfSome (S.left script.old) (λ text. text ≡ [])) }
+    ensures end { OnOk result (IsAtEnd (S.left script.new)) }
+    ensures stop { IfErr result (λ stop. IsReadEnd stop ⊎ ((stop ≡ Stop.NotBuilt) × IfSome (S.left script.old) (λ text. text ≢ []))) }
+    ensures later { S.faults script.old ≤ S.faults script.new }
+    ensures failed { IsErrOf result Stop.ReadFault → Rose (S.faults script.old) (S.faults script.new) }
+{
+    let mut text = Vec::new(alloc);
+    match read_whole(script, MAX_SCRIPT, &mut text) {
+        Ok(()) if text.is_empty() => Ok(()),
+        Ok(()) => Err(Stop::NotBuilt),
+        Err(ReadFail::TooLong) => Err(Stop::NotBuilt),
+        Err(ReadFail::Failed) => Err(Stop::ReadFault),
+        Err(ReadFail::Memory) => Err(Stop::Memory),
+    }
+}

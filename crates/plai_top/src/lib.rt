@@ -1,0 +1,16 @@
+//! The top call: from the words of the command line to the printed table (Muthukumar and Hermenegildo 1992).
+#![tactic(auto)]
+
+mod analysis;
+mod command;
+mod input;
+mod loading;
+mod output;
+mod refusal;
+mod stop;
+#[cfg(test)]
+mod tests;
+mod top;
+
+pub use stop::Stop;
+pub use top::{outcome_is_one, run};

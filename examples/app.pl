@@ -1,0 +1,6 @@
+:- module(app, [app/3]).
+
+:- entry app(X, Y, Z) : (ground(X), ground(Y)).
+
+app([], L, L).
+app([H|T], L, [H|R]) :- app(T, L, R).

@@ -1,0 +1,4 @@
+:- module(lists, [app/3]).
+
+app([], L, L).
+app([H|T], L, [H|R]) :- app(T, L, R).
