@@ -1,8 +1,9 @@
 //! Loading.
-ghost use Rattle.std.specs.Prelude.{◌≡◌, ◌<◌, ◌^◌, All, IfOk, length, map};
+ghost use Rattle.std.specs.Prelude.{◌≡◌, ◌<◌, ◌≤◌, ◌^◌, All, IfOk, length, map};
+ghost use Rattle.plai_clauses.specs.Program.{items_of};
 ghost use Rattle.plai_clauses.specs.WellFormed.{IsWellFormed};
 ghost use Rattle.plai_sources.specs.WellFormed.{AreWellFormedItems};
-ghost use Rattle.plai_modules.specs.Loading.{files_from, loaded};
+ghost use Rattle.plai_modules.specs.Loading.{files_from, counted_in, loaded};
 ghost use Rattle.plai_modules.specs.Outcomes.{Answers};
 
 use crate::fail::{LoadFail, fail_in};
@@ -20,6 +21,7 @@ fn read_files(alloc: Global, files: &[NamedText]) -> Result<Listed<FileItems>, L
     ensures answer { Answers (files_from 1 0 (map (λ file. file.text) files.now)) result }
     ensures well_formed { IfOk result (λ read. All AreWellFormedItems read) }
     ensures len { IfOk result (λ read. length read ≡ length files.now) }
+    ensures few { IfOk result (λ read. counted_in read ≤ 65536) }
 {
     let mut read = Vec::new(alloc);
     let mut there: u64 = 0;
@@ -40,6 +42,9 @@ fn read_files(alloc: Global, files: &[NamedText]) -> Result<Listed<FileItems>, L
 /// reads all files in order. A second one goes over them in order again and resolves what each module imports, which may
 /// stand in a later file.
 ///
+/// There are fewer than 2^32 files, and each has fewer than 2^31 bytes. The program has at most 65,536 clauses, entries and
+/// checks together.
+///
 /// `Refused` comes exactly where a term is refused, and names the first one by this order: the number of its file, from 1,
 /// its own number in that file, from 1, and why it is refused.
 pub fn load(alloc: Global, files: &[NamedText]) -> Result<Program, LoadFail>
@@ -47,6 +52,7 @@ pub fn load(alloc: Global, files: &[NamedText]) -> Result<Program, LoadFail>
     requires short { All (λ file. length file.text < 2 ^ 31) files.now }
     ensures answer { Answers (loaded (map (λ file. file.text) files.now)) result }
     ensures well_formed { IfOk result IsWellFormed }
+    ensures few { IfOk result (λ program. items_of program ≤ 65536) }
 {
     let read = read_files(alloc, files)?;
     program_of(alloc, read.as_slice())

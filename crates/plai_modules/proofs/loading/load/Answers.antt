@@ -1,7 +1,9 @@
-use Rattle.std.proofs.Common.{Ok, sym, ap, ◌∙◌}
-use Rattle.std.proofs.lemmas.Result.{err_from_is_err_and}
+use Rattle.std.proofs.Common.{◌≤◌, Ok, sym, ap, ◌∙◌, arith}
+use Rattle.std.proofs.lemmas.Result.{err_from_is_err_and, IfOk-weaker}
 use Rattle.std.proofs.lemmas.List.Elements.{All-same}
+use Rattle.plai_clauses.specs.Program.{ProgramView, items_of}
 use Rattle.plai_sources.specs.WellFormed.{AreWellFormedItems}
+use Rattle.plai_modules.specs.Loading.{counted_in}
 use Rattle.plai_modules.proofs.Passes.{texts_of, load_fails, load_links}
 use Rattle.plai_modules.proofs.loading.load.Goals as goal
 
@@ -16,3 +18,10 @@ program_of-requires-clause-items c = All-same AreWellFormedItems c.as_slice.resu
 pub returns-clause-answer : goal.returns-clause-answer
 returns-clause-answer c =
     load_links (texts_of c.args.files.now) c.as_slice.result.now c.program_of.result (c.in_ok-read.ensures.answer ∙ ap Ok (sym c.as_slice.ensures)) c.program_of.ensures.answer
+
+pub returns-clause-few : goal.returns-clause-few
+returns-clause-few c =
+    let read = c.in_ok-read.ensures.few in
+    let same = ap counted_in c.as_slice.ensures in
+    IfOk-weaker c.program_of.result (λ (p : ProgramView). items_of p ≤ counted_in c.as_slice.result.now) (λ (p : ProgramView). items_of p ≤ 65536)
+    (λ p h. omega (arith, h, same, read)) c.program_of.ensures.few

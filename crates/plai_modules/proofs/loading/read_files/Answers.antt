@@ -1,9 +1,10 @@
 use Rattle.std.proofs.Common.{◌≡◌, ◌+◌, ◌++◌, [], ◌∷◌, Ok, sym, ap, ◌∙◌, drop, length, arith}
 use Rattle.std.proofs.lemmas.List.{length-append}
 use Rattle.std.proofs.lemmas.List.Elements.{All-same, All-push}
+use Rattle.std.proofs.lemmas.List.Sums.{sum_by_push}
 use Rattle.plai_sources.specs.Items.{items_of}
 use Rattle.plai_sources.specs.WellFormed.{AreWellFormedItems}
-use Rattle.plai_modules.specs.Loading.{files_from}
+use Rattle.plai_modules.specs.Loading.{files_from, counted, counted_in}
 use Rattle.plai_modules.proofs.Passes.{behind, texts_of, read_more}
 use Rattle.plai_modules.proofs.loading.read_files.Goals as goal
 
@@ -20,7 +21,11 @@ loop-i-preserved c =
       c.in-Ok.ensures.few c.loop-i.invariant.1,
       All-same AreWellFormedItems c.push.new.self.items (read ++ items ∷ []) pushed (All-push AreWellFormedItems read items c.loop-i.invariant.2 c.in-Ok.ensures.well_formed),
       omega (arith, c.loop-i.invariant.3, simp length-append at (ap length pushed)),
+      omega (arith, c.in-Ok.ensures.counted, c.loop-i.invariant.4, ap counted_in pushed, sum_by_push counted read items),
     )
 
 pub returns-clause-well_formed : goal.returns-clause-well_formed
 returns-clause-well_formed c = All-same AreWellFormedItems c.new.result c.loop-i.read.items c.new.ensures c.loop-i.invariant.2
+
+pub returns-clause-few : goal.returns-clause-few
+returns-clause-few c = omega (arith, ap counted_in c.new.ensures, c.loop-i.invariant.4, c.loop-i.invariant.1)
