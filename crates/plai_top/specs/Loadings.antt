@@ -5,7 +5,7 @@ use Rattle.plai_clauses.specs.WellFormed.{IsWellFormed}
 use Rattle.plai_modules.specs.Loading.{Refusal, loaded}
 use Rattle.plai_words.specs.declared.types.Settings.{Settings}
 use Rattle.plai_top.specs.Files.{is_built_program, HasProgram}
-use Rattle.plai_top.specs.Outcome.{Outcome, refused_by, IsEarly}
+use Rattle.plai_top.specs.Outcome.{refused_by, IsEarly}
 use Rattle.plai_top.specs.declared.loading.Loading.{Loading}
 use Rattle.plai_top.specs.declared.loading.Loading.TheVariants.{Program, Refused}
 

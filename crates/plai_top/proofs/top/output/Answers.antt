@@ -1,4 +1,4 @@
-use Rattle.std.proofs.Common.{refl, ap, Ok, Err}
+use Rattle.std.proofs.Common.{refl, ap, Err}
 use Rattle.plai_base.specs.Causes.{Rose}
 use Rattle.plai_words.specs.Command.{texts}
 use Rattle.plai_top.proofs.Deciding.{as_program, as_line, stop_outcome, line_outcome, script_outcome, analysis_outcome, program_keeps_early, line_keeps_early, stop_keeps_early}
