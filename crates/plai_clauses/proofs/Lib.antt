@@ -4,3 +4,4 @@ pub mod Changes
 pub mod Kept
 pub mod Formed
 pub mod ByModule
+pub mod Invariant

@@ -5,3 +5,4 @@ pub mod Program
 pub mod WellFormed
 pub mod Codes
 pub mod ByModule
+pub mod Invariant

@@ -1,7 +1,8 @@
 //! Programs, and the calls that build and change one.
-ghost use Rattle.std.specs.Prelude.{◌≡◌, None, ◌≤◌, ◌-◌, ◌^◌, length, min, IfOk, OnOk, OnErr};
+ghost use Rattle.std.specs.Prelude.{◌≡◌, None, IsSome, ◌≤◌, ◌-◌, ◌^◌, length, min, IfOk, OnOk, OnErr};
 ghost use Rattle.std.specs.Option.{option_copied};
-ghost use Rattle.plai_domain.specs.Conditions.{most_arguments};
+ghost use Rattle.plai_clauses.specs.WellFormed.{IsWellFormedClause, IsWellFormedEntry, IsWellFormedCheck};
+ghost use Rattle.plai_clauses.specs.Invariant.{IsProgram};
 ghost use Rattle.plai_clauses.specs.Program.{clauses_of, module_in, items_of, resolved, empty, with_module, with_clause_of, without_clause, without_clauses, with_entry, with_check, without_entry, without_check, homes_of_entries, homes_of_checks, IsNumber};
 
 use crate::check::Check;
@@ -20,7 +21,7 @@ use std::alloc::{AllocError, Global};
 use std::marker::Model;
 
 /// A program: modules, the clauses of each predicate in order, and entries and checks, by module name, within a module in
-/// order. Contracts see these as plain lists.
+/// order. Contracts see these as plain lists. Clauses, entries and checks are well formed.
 #[derive(Debug, Drop)]
 pub struct Program {
     modules: Vec<Module>,
@@ -31,6 +32,7 @@ pub struct Program {
 
 impl Model for Program {
     ghost use Rattle.plai_clauses.specs.Program.{ProgramView};
+    ghost use Rattle.plai_clauses.specs.Invariant.{IsProgram};
     ghost use Rattle.plai_clauses.specs.Codes.{program_code};
 
     ghost Value = { ProgramView };
@@ -38,6 +40,8 @@ impl Model for Program {
     ghost coded = { program_code };
 
     ghost view = { λ p. record { modules = p.modules.items; definitions = p.definitions.items; entries = p.entries.items; checks = p.checks.items } };
+
+    ghost invariant = { λ p. IsProgram (record { modules = p.modules.items; definitions = p.definitions.items; entries = p.entries.items; checks = p.checks.items }) };
 }
 
 fn copy_entries(alloc: Global, entries: &[Entry]) -> Result<Vec<Entry>, AllocError>
@@ -95,14 +99,18 @@ impl Program {
         Ok(())
     }
 
-    /// Puts the clause last in its predicate of the module. After want of memory the program is as before.
+    /// Puts the clause last in its predicate of the module, which is there. The clause is well formed: its head and each
+    /// literal have at most 16 arguments; the head's arguments, the variables and the widest literal's arguments are together
+    /// at most 64; its variables are numbered below their count; and a literal's target is a builtin exactly where its key
+    /// is one, else a predicate of its name and arity. After want of memory the program is as before.
     pub fn add_clause(
         &mut self,
         alloc: Global,
         module: &Name,
         clause: Clause,
     ) -> Result<(), AllocError>
-        requires { length clause.head ≤ most_arguments }
+        requires there { IsSome (module_in self.old.modules «module».now) }
+        requires clause { IsWellFormedClause clause }
         ensures ok { OnOk result (self.new ≡ with_clause_of self.old «module».now clause) }
         ensures err { OnErr result (self.new ≡ self.old) }
     {
@@ -111,7 +119,8 @@ impl Program {
             name: clause.name.copy(alloc)?,
             arity: clause.head.as_slice().len() as u32,
         };
-        push_clause(alloc, &mut self.definitions, pred, clause)
+        push_clause(alloc, &mut self.definitions, pred, clause)?;
+        Ok(())
     }
 
     /// Takes the predicate's clause of that number, from 1, away. After want of memory the program is as before.
@@ -137,8 +146,11 @@ impl Program {
         clear_clauses(&mut self.definitions, pred);
     }
 
-    /// Puts the entry last in its module. After want of memory the program is as before.
+    /// Puts the entry last in its module, which is there. Its predicate has at most 16 arguments, and its properties speak
+    /// of these. After want of memory the program is as before.
     pub fn add_entry(&mut self, _alloc: Global, entry: Entry) -> Result<(), AllocError>
+        requires there { IsSome (module_in self.old.modules entry.«module») }
+        requires entry { IsWellFormedEntry entry }
         ensures ok { OnOk result (self.new ≡ with_entry self.old entry) }
         ensures err { OnErr result (self.new ≡ self.old) }
     {
@@ -147,8 +159,11 @@ impl Program {
         Ok(())
     }
 
-    /// Puts the check last in its module. After want of memory the program is as before.
+    /// Puts the check last in its module, which is there. Its predicate has at most 16 arguments, and its properties speak
+    /// of these. After want of memory the program is as before.
     pub fn add_check(&mut self, _alloc: Global, check: Check) -> Result<(), AllocError>
+        requires there { IsSome (module_in self.old.modules check.«module») }
+        requires check { IsWellFormedCheck check }
         ensures ok { OnOk result (self.new ≡ with_check self.old check) }
         ensures err { OnErr result (self.new ≡ self.old) }
     {
@@ -180,6 +195,14 @@ impl Program {
         ensures { option_copied result ≡ module_in self.now.modules name.now }
     {
         module_in(&self.modules, name)
+    }
+
+    /// What holds of every program: clauses, entries and checks are well formed, and entries and checks stand by module
+    /// name. It does nothing.
+    pub fn is_program(&self)
+        ensures { IsProgram self.now }
+    {
+        let _ = &self.modules;
     }
 
     /// How many clauses, entries and checks there are together, or the largest `u64`. It takes no memory.

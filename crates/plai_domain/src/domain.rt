@@ -44,8 +44,8 @@ pub trait Domain: Drop {
         requires within { All (speaks_within arity) pre.now }
         ensures { IfOk result (λ value. value_of value ≡ (plain self.now).describe arity pre.now) };
 
-    /// The state in which a clause begins, for a call of as many arguments as its head has; none where the call never
-    /// succeeds there. `Over` exactly where a set that is formed has more than 65,536 groups.
+    /// The state in which a clause begins, for a call of as many arguments as its head has; none where the plain domain
+    /// gives none. `Over` exactly where a set that is formed has more than 65,536 groups.
     fn enter<L: Ledger>(
         &self,
         alloc: Global,

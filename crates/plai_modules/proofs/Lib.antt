@@ -3,3 +3,5 @@ pub mod Passes
 pub mod Formed
 pub mod Targets
 pub mod Imported
+pub mod Counted
+pub mod There

@@ -1,9 +1,10 @@
 -- What a module imports: the keys, each a name and a number of arguments, that its directives `use_module` name, each
 -- with the module that exports it (after ISO/IEC 13211-2:2000, 6.2; the forms and the refusals are this project's).
-use Rattle.std.specs.Prelude.{ℕ, Bool, false, not, ◌||◌, nat_eq, codes, fold, Option, Some, None, is_some, Result, Ok, Err, List, [], ◌∷◌, ◌++◌, length, if◌then◌else◌}
+use Rattle.std.specs.Prelude.{◌≡◌, ℕ, Bool, true, false, not, ◌||◌, nat_eq, codes, fold, Option, Some, None, is_some, Result, Ok, Err, List, [], ◌∷◌, ◌++◌, length, if◌then◌else◌}
 use Rattle.std.specs.Option.{option_map_or}
 use Rattle.std.specs.List.{list_any, list_all}
 use Rattle.std.specs.Cmp.Lexicographic.{pointwise}
+use Rattle.plai_theory.specs.Words.{IsIn}
 use Rattle.plai_terms.specs.declared.term.Term.{Term, out-Term}
 use Rattle.plai_terms.specs.declared.term.Term.TheOpen.{Term-F}
 use Rattle.plai_clauses.specs.Builtins.{is_key}
@@ -94,3 +95,16 @@ behind_term files items imports numbered = at_term numbered.term (behind_item fi
 -- what a file of several imports in all, or its first refused directive
 abbrev pub imports_of : List FileItems → List NumberedItem → Result (List (List ℕ × ℕ × List ℕ)) Refusal
 imports_of files items = steps (behind_term files items) [] items
+
+-- An import of a file with these items: one of its directives names the key, the module that the directive names exports
+-- it, and the file has no clause for it.
+pub record IsImport (files : List FileItems) (items : List NumberedItem) (i : List ℕ × ℕ × List ℕ) : Type 0 where
+  pub exporting : FileItems
+  pub there : file_of files i.2 ≡ Some exporting
+  pub exported : is_exported exporting.exports (i.0, i.1) ≡ true
+  pub directive : NumberedItem
+  pub stands : IsIn directive items
+  pub named : Option (List (List ℕ × ℕ))
+  pub says : directive.item ≡ UseModule i.2 named
+  pub listed : IsIn (i.0, i.1) (keys_of named exporting.exports)
+  pub free : has_clause items (i.0, i.1) ≡ false

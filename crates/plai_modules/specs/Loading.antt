@@ -1,7 +1,8 @@
 -- Loading: the program that the texts of several files say, or the first refused term. A first pass reads all files in
 -- order. A second one goes over them in order again: it resolves what each imports, against the modules of all files, and
 -- adds its clauses, entries and checks to the program.
-use Rattle.std.specs.Prelude.{ℕ, ◌+◌, is_some, fold, Result, Ok, Err, List, [], ◌∷◌, if◌then◌else◌}
+use Rattle.std.specs.Prelude.{ℕ, ◌+◌, is_some, count_by, fold, Result, Ok, Err, List, [], ◌∷◌, if◌then◌else◌}
+use Rattle.std.specs.List.{sum_by}
 use Rattle.plai_terms.specs.declared.pred_key.PredKey.{PredKey}
 use Rattle.plai_clauses.specs.declared.clause.Clause as clause
 use Rattle.plai_clauses.specs.declared.cause.ClauseCause.{ClauseCause}
@@ -13,7 +14,7 @@ use Rattle.plai_sources.specs.declared.items.FileItems.{FileItems}
 use Rattle.plai_sources.specs.declared.items.NumberedItem.{NumberedItem}
 use Rattle.plai_sources.specs.declared.items.Item.{Item}
 use Rattle.plai_sources.specs.declared.items.Item.TheVariants.{UseModule, Entry, Check, Clause}
-use Rattle.plai_sources.specs.Items.{items_of, refusal}
+use Rattle.plai_sources.specs.Items.{items_of, refusal, is_counted}
 use Rattle.plai_sources.specs.Items as source
 use Rattle.plai_modules.specs.Steps.{and_then}
 use Rattle.plai_modules.specs.Importing.{imports_of}
@@ -88,3 +89,10 @@ program_of files = linked_from files 1 empty files
 -- the program that these texts of files say, or the first refused term
 unfoldable pub loaded : List (List ℕ) → Result ProgramView Refusal
 loaded texts = and_then (files_from 1 0 texts) program_of
+
+-- how many clauses, entries and checks a file has, and several files together
+abbrev pub counted : FileItems → ℕ
+counted file = count_by (λ numbered. is_counted numbered.item) file.items
+
+abbrev pub counted_in : List FileItems → ℕ
+counted_in = sum_by counted

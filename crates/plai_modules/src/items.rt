@@ -1,7 +1,8 @@
 //! The program with an item more of a module whose imports are known.
-ghost use Rattle.std.specs.Prelude.{◌≡◌, IfOk, OnOk};
+ghost use Rattle.std.specs.Prelude.{◌≡◌, IfOk, IsSome, OnOk};
 ghost use Rattle.plai_terms.specs.Readable.{IsReadable};
 ghost use Rattle.plai_clauses.specs.ClauseOf.{clause_of};
+ghost use Rattle.plai_clauses.specs.Program.{module_in};
 ghost use Rattle.plai_sources.specs.WellFormed.{IsWellFormedItem};
 ghost use Rattle.plai_theory.specs.Words.{IsIn};
 ghost use Rattle.plai_sources.specs.declared.items.NumberedItem.{NumberedItem};
@@ -36,7 +37,8 @@ fn add_clause(
     term: &ReadTerm,
     program: &mut Program,
 ) -> Result<(), AllocError>
-    requires { IsReadable term.now }
+    requires there { IsSome (module_in program.old.modules «module».now) }
+    requires term { IsReadable term.now }
     ensures { OnOk result (program.new ≡ with_clause_from program.old «module».now (clause_of «module».now imports.now term.now)) }
 {
     match Clause::from_term(alloc, module, imports, term) {
@@ -53,7 +55,8 @@ fn add_item(
     item: &Item,
     program: &mut Program,
 ) -> Result<(), AllocError>
-    requires { IsWellFormedItem «module».now item.now }
+    requires there { IsSome (module_in program.old.modules «module».now) }
+    requires item { IsWellFormedItem «module».now item.now }
     ensures { OnOk result (program.new ≡ with_item «module».now imports.now program.old item.now) }
 {
     match item {
@@ -88,7 +91,8 @@ pub(crate) fn add_items(
     items: &[NumberedItem],
     program: &mut Program,
 ) -> Result<(), AllocError>
-    requires { (numbered : NumberedItem) → IsIn numbered items.now → IsWellFormedItem «module».now numbered.item }
+    requires there { IsSome (module_in program.old.modules «module».now) }
+    requires items { (numbered : NumberedItem) → IsIn numbered items.now → IsWellFormedItem «module».now numbered.item }
     ensures { OnOk result (program.new ≡ with_items «module».now imports.now program.old items.now) }
 {
     for numbered in items {

@@ -13,7 +13,7 @@ mod named_text;
 mod tests;
 
 pub use fail::LoadFail;
-pub use laws::{clauses_are_kept, named_keys_are_imported};
+pub use laws::{clauses_are_kept, imports_are_exported, named_keys_are_imported};
 pub use loading::load;
 pub use named_text::NamedText;
 pub use plai_sources::LoadCause;

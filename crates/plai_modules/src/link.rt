@@ -1,9 +1,9 @@
 //! The second pass over all files.
-ghost use Rattle.std.specs.Prelude.{◌≡◌, ◌<◌, ◌^◌, All, IfOk, OnOk, None, length};
-ghost use Rattle.plai_clauses.specs.Program.{module_in};
+ghost use Rattle.std.specs.Prelude.{◌≡◌, ◌<◌, ◌≤◌, ◌^◌, All, IfOk, OnOk, None, length};
+ghost use Rattle.plai_clauses.specs.Program.{module_in, items_of};
 ghost use Rattle.plai_clauses.specs.WellFormed.{IsWellFormed};
 ghost use Rattle.plai_sources.specs.WellFormed.{AreWellFormedItems};
-ghost use Rattle.plai_modules.specs.Loading.{with_file, linked, program_of};
+ghost use Rattle.plai_modules.specs.Loading.{with_file, linked, program_of, counted_in};
 ghost use Rattle.plai_modules.specs.Outcomes.{Answers, Leaves};
 
 use crate::fail::{LoadFail, fail_in};
@@ -68,6 +68,7 @@ pub(crate) fn program_of(alloc: Global, files: &[FileItems]) -> Result<Program, 
     requires items { All AreWellFormedItems files.now }
     ensures answer { Answers (program_of files.now) result }
     ensures well_formed { IfOk result IsWellFormed }
+    ensures few { IfOk result (λ program. items_of program ≤ counted_in files.now) }
 {
     change_laws();
     clause_law();

@@ -1,5 +1,5 @@
 -- Why rounds stop: too many names, or a set of too many groups.
-use Rattle.std.proofs.Common.{◌≡◌, ℕ, ◌+◌, ◌≤◌, List, [], ◌∷◌, ◌++◌, map, length, Option, None, refl, subst, inl, inr, arith}
+use Rattle.std.proofs.Common.{◌≡◌, ℕ, ◌+◌, ◌-◌, ◌≤◌, List, [], ◌∷◌, ◌++◌, map, length, Option, None, refl, sym, subst, inl, inr, arith}
 use Rattle.plai_theory.specs.Words.{IsIn, AreDistinct}
 use Rattle.plai_theory.specs.Domain.{Domain, Program, Name}
 use Rattle.plai_theory.specs.Domain as theory
@@ -12,6 +12,7 @@ use Rattle.plai_theory.proofs.Count.{near_row}
 use Rattle.plai_theory.proofs.Over.{near_over}
 use Rattle.plai_terms.specs.declared.abs.Abs.{Abs}
 use Rattle.plai_terms.specs.declared.pred_key.PredKey.{PredKey}
+use Rattle.plai_terms.specs.declared.row_name.RowName.{RowName}
 use Rattle.plai_domain.specs.declared.key.Key.{Key}
 use Rattle.plai_domain.specs.Plain.{PlainDomain}
 use Rattle.plai_domain.specs.Laws.{IsLawful}
@@ -27,8 +28,9 @@ use Rattle.plai_rounds.specs.declared.analyse_fail.AnalyseFail.TheVariants.{Memo
 use Rattle.plai_rounds.specs.Names.{rows_of, names_of}
 use Rattle.plai_rounds.specs.Adding.{IsFull, StopsAdding}
 use Rattle.plai_rounds.specs.Making.{IsMaking, TellsOver}
-use Rattle.plai_rounds.specs.Causes.{AreTooMany, HasCause}
-use Rattle.plai_rounds.proofs.Lists.{length_map}
+use Rattle.plai_rounds.specs.Causes.{AreTooMany, IsClauseOf, IsOverThere, HasCause}
+use Rattle.plai_rounds.proofs.Lists.{length_map, get_in}
+use Rattle.plai_rounds.proofs.Evaluated.{is_over}
 use Rattle.plai_rounds.proofs.Making.{names_same, has_name, names_distinct, adds_making}
 
 module _ (p : PlainDomain) (laws : IsLawful p) (program : ProgramView) (good : IsWellFormed program) (limit : ℕ) where
@@ -82,9 +84,18 @@ module _ (p : PlainDomain) (laws : IsLawful p) (program : ProgramView) (good : I
 
   -- Theorem: an evaluation of a row that rounds make forms a set of too many groups only where the program does.
   pub over_cause : (rows : List (Row (as_domain p))) → IsMade (as_domain p) (as_program p program) rows → (x : Name PredKey Abs) → IsNear (as_domain p) (as_program p program) x
-      → (clause : Clause) → IsIn clause (clauses_of program x.pred) → (fail : AnalyseFail) → TellsOver p rows clause x.call fail → HasCause p program limit fail
-  over_cause rows made x near clause i Memory told = tt
-  over_cause rows made x near clause i (Rows n) told = absurd told
-  over_cause rows made x near clause i (Groups row number literal place) told =
-      near_over (as_domain p) (as_program p program) theory_laws (as_limits p) (limits_at p laws program good) (source_of (as_domain p) rows)
-      (from_below (as_domain p) (as_program p program) theory_laws rows (made_low (as_domain p) (as_program p program) theory_laws made)) x near clause i told
+      → IsIn x (names_of p rows) → (number : ℕ) (clause : Clause) → IsClauseOf program x.pred number clause → (fail : AnalyseFail) → TellsOver p rows x number clause fail → HasCause p program limit fail
+  over_cause rows made x near here number clause is Memory told = tt
+  over_cause rows made x near here number clause is (Rows n) told = absurd told
+  over_cause rows made x near here number clause is (Groups row at literal place) (same, one, over) = (
+    near_over (as_domain p) (as_program p program) theory_laws (as_limits p) (limits_at p laws program good) (source_of (as_domain p) rows)
+        (from_below (as_domain p) (as_program p program) theory_laws rows (made_low (as_domain p) (as_program p program) theory_laws made)) x near clause
+        (get_in (clauses_of program x.pred) (number - 1) clause is.1) (is_over p rows clause x.call (literal, place) over),
+    subst (λ (n : ℕ). IsOverThere p program row n literal place) (sym one)
+        (subst (λ (r : RowName). IsOverThere p program r number literal place) (sym same)
+        (record { rows = rows; made = made; has = has_name p rows x here; clause = clause; is_clause = is; over = over })),
+  )
+
+-- a clause of a number is one of the predicate's
+pub in_clauses : (program : ProgramView) (pred : PredKey) (number : ℕ) (clause : Clause) → IsClauseOf program pred number clause → IsIn clause (clauses_of program pred)
+in_clauses program pred number clause is = get_in (clauses_of program pred) (number - 1) clause is.1

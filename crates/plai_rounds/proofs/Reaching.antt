@@ -125,6 +125,9 @@ module _ (p : PlainDomain) (laws : IsLawful p) (program : ProgramView) (good : I
   pub reached_near : (x : Name PredKey Abs) → IsReached x → IsNear (as_domain p) (as_program p program) x
   reached_near x (k, r) = made_near p laws program good limit rows done.making.made x (reached_in p laws program good limit rows done.making done.quiet done.entries k x r)
 
+  pub name_reached : (x : Name PredKey Abs) → IsReached x → IsIn x (names_of p rows)
+  name_reached x (k, r) = reached_in p laws program good limit rows done.making done.quiet done.entries k x r
+
   pub reached_call : (x : Name PredKey Abs) → IsReached x → p.Leq x.pred.arity x.call x.call
   reached_call x (k, r) =
       reached_value (as_domain p) (as_program p program) (lawful_at p laws program good) (source_of (as_domain p) rows)

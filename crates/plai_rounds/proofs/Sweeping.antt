@@ -1,5 +1,5 @@
 -- What is quiet so far, one more clause, and one more row.
-use Rattle.std.proofs.Common.{◌≡◌, ℕ, ◌+◌, ◌<◌, ◌≤◌, List, length, Some, slice_get, nat_eq, eqb-true, false, sym, ap, ◌∙◌, subst, arith}
+use Rattle.std.proofs.Common.{◌≡◌, ℕ, ◌+◌, ◌-◌, ◌<◌, ◌≤◌, List, length, Some, slice_get, nat_eq, eqb-true, false, sym, ap, ◌∙◌, subst, arith}
 use Rattle.std.proofs.lemmas.Bool.Decides.{nat_tests}
 use Rattle.plai_theory.specs.Words.{IsIn}
 use Rattle.plai_theory.specs.Domain.{Name}
@@ -66,3 +66,10 @@ rows_all p program old n h quiet x i =
     let (k, w, e) = place_of (names_of p old) x i in
     let l : length (names_of p old) ≡ length old = length_map (λ (r : Row (as_domain p)). r.name) old in
     quiet k x (omega arith) e
+
+-- the clause that comes next has the next number, from 1
+pub numbered : (clauses : List Clause) (index number : ℕ) (clause : Clause) → number ≡ index → slice_get clauses index ≡ Some clause
+    → (1 ≤ number + 1) × (slice_get clauses (number + 1 - 1) ≡ Some clause)
+numbered clauses index number clause e is =
+    let same : index ≡ number + 1 - 1 = omega (arith, e) in
+    (omega arith, subst (λ k. slice_get clauses k ≡ Some clause) same is)

@@ -13,12 +13,13 @@ use Rattle.plai_terms.specs.declared.pred_key.PredKey.{PredKey}
 use Rattle.plai_domain.specs.Plain.{PlainDomain}
 use Rattle.plai_clauses.specs.declared.clause.Clause.{Clause}
 use Rattle.plai_clauses.specs.Program.{ProgramView, clauses_of}
-use Rattle.plai_eval.specs.Meaning.{as_domain, as_limits, as_program}
+use Rattle.plai_eval.specs.Meaning.{row_name, as_domain, as_limits, as_program}
+use Rattle.plai_eval.specs.Evaluation.{evaluation}
 use Rattle.plai_rounds.specs.declared.analyse_fail.AnalyseFail.{AnalyseFail}
 use Rattle.plai_rounds.specs.declared.analyse_fail.AnalyseFail.TheVariants as analyse_fail
 use Rattle.plai_rounds.specs.declared.change.Change.{Change}
 use Rattle.plai_rounds.specs.declared.change.Change.TheVariants.{Nothing, Grown, Opened}
-use Rattle.plai_rounds.specs.Names.{names_of}
+use Rattle.plai_rounds.specs.Names.{names_of, answers_of}
 
 -- Rows that rounds make, each name once, no more than the limit.
 pub record IsMaking (p : PlainDomain) (program : ProgramView) (limit : ℕ) (rows : List (Row (as_domain p))) : Type 0 where
@@ -33,12 +34,13 @@ pub record IsEvaluation (p : PlainDomain) (rows : List (Row (as_domain p))) (cla
   pub calls : called ≡ calls_of (as_domain p) (source_of (as_domain p) rows) clause call
   pub within : IsOverAt (as_domain p) (as_limits p) (source_of (as_domain p) rows) clause call → ⊥
 
--- a failure by a set of too many groups comes only where the evaluation forms such a set; want of memory is free
-abbrev pub TellsOver : (p : PlainDomain) → List (Row (as_domain p)) → Clause → Abs → AnalyseFail → Type 0
-TellsOver p rows clause call analyse_fail.Memory = Unit {0}
-TellsOver p rows clause call (analyse_fail.Rows n) = ⊥
-TellsOver p rows clause call (analyse_fail.Groups row number literal place) =
-    IsOverAt (as_domain p) (as_limits p) (source_of (as_domain p) rows) clause call
+-- a failure by a set of too many groups names the row, the number of the clause, and where the evaluation forms the first
+-- such set; want of memory is free
+abbrev pub TellsOver : (p : PlainDomain) → List (Row (as_domain p)) → Name PredKey Abs → ℕ → Clause → AnalyseFail → Type 0
+TellsOver p rows x number clause analyse_fail.Memory = Unit {0}
+TellsOver p rows x number clause (analyse_fail.Rows n) = ⊥
+TellsOver p rows x number clause (analyse_fail.Groups row at literal place) =
+    (row ≡ row_name x) × (at ≡ number) × ((evaluation p (answers_of p rows) clause x.call).over ≡ Some (literal, place))
 
 -- The evaluation of the clause at the name changes nothing: each name that it calls has a row, its answer raises nothing,
 -- and it forms no set of too many groups.

@@ -1,5 +1,4 @@
 ghost use Rattle.std.specs.Prelude.{◌≤◌, All, length, IfOk, IfErr, OnOk};
-ghost use Rattle.plai_clauses.specs.WellFormed.{IsWellFormed};
 ghost use Rattle.plai_eval.specs.LeastTable.{IsLeastTable};
 ghost use Rattle.plai_eval.specs.Stops.{IsOver};
 ghost use Rattle.plai_render.specs.Order.{IsNarrow};
@@ -22,7 +21,7 @@ use std::sync::ledger::Ledger;
 ///
 /// `Rows` names the limit, and comes only where more names than the limit lie at or below names of the least table, each of
 /// the same predicate; so a table has at most as many rows as the limit says. `Groups` comes only where an evaluation of
-/// the program forms a set of more than 65,536 groups, and a table only where none does.
+/// the program forms a set of more than 65,536 groups, names such an evaluation, and a table comes only where none does.
 pub fn analyse<D: Domain, W: Work, L: Ledger>(
     alloc: Global,
     domain: &D,
@@ -31,13 +30,13 @@ pub fn analyse<D: Domain, W: Work, L: Ledger>(
     work: &mut W,
     steps: &mut Steps<L>,
 ) -> Result<Vec<PlainRow>, AnalyseFail>
-    requires { IsWellFormed program.now }
     ensures table { IfOk result (λ table. IsLeastTable (D.plain domain.now) program.now table.items) }
     ensures narrow { IfOk result (λ table. All IsNarrow table.items) }
     ensures within { IfOk result (λ table. length table.items ≤ limit) }
     ensures not_over { OnOk result (¬ IsOver (D.plain domain.now) program.now) }
     ensures causes { IfErr result (HasCause (D.plain domain.now) program.now limit) }
 {
+    program.is_program();
     let task = Task {
         alloc,
         domain,

@@ -35,8 +35,8 @@ pub(crate) fn evaluate_clause<D: Domain, W: Work, L: Ledger>(
     requires answers { AnswersFit (D.plain domain.now) (answers_of (D.plain domain.now) (rows_of D.value_of (D.plain domain.now) rows.now.entries)) }
     ensures ok { IfOk result (λ e. IsEvaluation (D.plain domain.now) (rows_of D.value_of (D.plain domain.now) rows.now.entries) clause.now
         (D.value_of name.now.call) (option_map D.value_of e.answer) (map (key_name D.value_of) e.calls)) }
-    ensures err { IfErr result (TellsOver (D.plain domain.now) (rows_of D.value_of (D.plain domain.now) rows.now.entries) clause.now
-        (D.value_of name.now.call)) }
+    ensures err { IfErr result (TellsOver (D.plain domain.now) (rows_of D.value_of (D.plain domain.now) rows.now.entries)
+        (key_name D.value_of name.now) number clause.now) }
 {
     let present = Present { domain, rows };
     match evaluate(alloc, domain, name, clause, number, &present, work, steps) {

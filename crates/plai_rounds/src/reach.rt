@@ -10,7 +10,7 @@ ghost use Rattle.plai_eval.specs.Meaning.{as_program};
 ghost use Rattle.plai_rounds.specs.Names.{key_name, names_in, rows_of};
 ghost use Rattle.plai_rounds.specs.Making.{IsMaking};
 ghost use Rattle.plai_rounds.specs.Reaching.{IsDone, IsReaching, IsReachStep, HasCalls, HasAllCalls};
-ghost use Rattle.plai_rounds.specs.Causes.{HasCause};
+ghost use Rattle.plai_rounds.specs.Causes.{IsClauseOf, HasCause};
 
 use crate::analyse_fail::AnalyseFail;
 use crate::evaluation::evaluate_clause;
@@ -69,7 +69,7 @@ fn reach_clause<D: Domain, W: Work, L: Ledger>(
     requires done { IsDone (D.plain task.now.domain.now) task.now.program.now task.now.limit (rows_of D.value_of (D.plain task.now.domain.now) rows.now.entries) }
     requires reaching { IsReaching (D.plain task.now.domain.now) task.now.program.now task.now.limit (rows_of D.value_of (D.plain task.now.domain.now) rows.now.entries) (names_in D.value_of reached.old.entries) }
     requires index { index < length reached.old.entries }
-    requires clause { (x : Name PredKey Abs) → slice_get (names_in D.value_of reached.old.entries) index ≡ Some x → IsIn clause.now (clauses_of task.now.program.now x.pred) }
+    requires clause { (x : Name PredKey Abs) → slice_get (names_in D.value_of reached.old.entries) index ≡ Some x → IsClauseOf task.now.program.now x.pred number clause.now }
     ensures step { OnOk result (IsReachStep (D.plain task.now.domain.now) task.now.program.now task.now.limit (rows_of D.value_of (D.plain task.now.domain.now) rows.now.entries)
         (names_in D.value_of reached.old.entries) (names_in D.value_of reached.new.entries)) }
     ensures calls { OnOk result ((x : Name PredKey Abs) → slice_get (names_in D.value_of reached.old.entries) index ≡ Some x

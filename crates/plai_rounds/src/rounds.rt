@@ -9,7 +9,7 @@ ghost use Rattle.plai_clauses.specs.WellFormed.{IsWellFormed};
 ghost use Rattle.plai_rounds.specs.declared.change.Change.TheVariants.{Nothing};
 ghost use Rattle.plai_rounds.specs.Names.{rows_of};
 ghost use Rattle.plai_rounds.specs.Making.{IsMaking, IsQuiet, IsQuietAt, AreQuiet, IsStep, IsAt, IsSettling};
-ghost use Rattle.plai_rounds.specs.Causes.{HasCause};
+ghost use Rattle.plai_rounds.specs.Causes.{IsClauseOf, HasCause};
 
 use crate::analyse_fail::AnalyseFail;
 use crate::change::Change;
@@ -36,7 +36,7 @@ fn work_clause<D: Domain, W: Work, L: Ledger>(
     requires making { IsMaking (D.plain task.now.domain.now) task.now.program.now task.now.limit (rows_of D.value_of (D.plain task.now.domain.now) rows.old.entries) }
     requires index { index < length rows.old.entries }
     requires clause { (x : Name PredKey Abs) → IsAt (D.plain task.now.domain.now) (rows_of D.value_of (D.plain task.now.domain.now) rows.old.entries) index x
-        → IsIn clause.now (clauses_of task.now.program.now x.pred) }
+        → IsClauseOf task.now.program.now x.pred number clause.now }
     ensures step { IfOk result (IsStep (D.plain task.now.domain.now) task.now.program.now task.now.limit
         (rows_of D.value_of (D.plain task.now.domain.now) rows.old.entries) (rows_of D.value_of (D.plain task.now.domain.now) rows.new.entries)) }
     ensures quiet { IfOk result (λ change. change ≡ Nothing → (x : Name PredKey Abs)

@@ -1,9 +1,10 @@
 -- What terms say is well formed.
-use Rattle.std.proofs.Common.{◌≡◌, ◌∙◌, ℕ, ◌+◌, ◌≤◌, ◌<◌, ◌⊎◌, inl, inr, Bool, true, false, not, ◌&&◌, cond, Option, Some, None, Result, Ok, Err, List, [], ◌∷◌, ◌++◌, length, refl, sym, ap, subst, arith, codes}
+use Rattle.std.proofs.Common.{◌≡◌, ◌∙◌, ℕ, ◌+◌, ◌≤◌, ◌<◌, ◌⊎◌, inl, inr, Bool, true, false, not, ◌&&◌, cond, Option, Some, None, Result, Ok, Err, List, [], ◌∷◌, ◌++◌, length, add-zero, refl, sym, ap, subst, arith, codes}
 use Rattle.std.specs.Prelude.{All, option_map, option_and_then, ok_or, position, nat_le, nat_lt, nat_eq, IfSome, IsOk}
 use Rattle.std.specs.Cmp.Lexicographic.{pointwise}
 use Rattle.std.proofs.lemmas.Bool.Decides.{nat_tests}
 use Rattle.std.proofs.lemmas.List.Elements.{All-nil}
+use Rattle.std.proofs.lemmas.List.Sums.{sum_by-append}
 use Rattle.std.proofs.lemmas.List.Quantifiers.{position-Some}
 use Rattle.plai_theory.specs.Words.{IsIn}
 use Rattle.plai_terms.specs.declared.term.Term.{Term, out-Term}
@@ -37,7 +38,7 @@ use Rattle.plai_sources.specs.Properties.{are_distinct, open_goal, goal_at, goal
 use Rattle.plai_sources.specs.Operators.{operators_of}
 use Rattle.plai_sources.specs.Directives.{Said, other_module, import, import_all, import_some, item_of_one, item_of_two, with_item, with_operators, directive_at, directive_in, clause_from, said_from, said_by, header_of}
 use Rattle.plai_sources.specs.Items.{most_items, is_counted, placed, with_item as with_placed, with_item_if, under, with_said, with_header, with_term_under, with_term}
-use Rattle.plai_sources.specs.WellFormed.{IsEntryItem, IsCheckItem, IsWellFormedItem, AreWellFormedUnder, IsGood}
+use Rattle.plai_sources.specs.WellFormed.{IsEntryItem, IsCheckItem, IsWellFormedItem, AreWellFormedUnder, counted_items, IsGood}
 use Rattle.plai_sources.proofs.Each.{length-each, All-each}
 
 -- tests and options
@@ -282,28 +283,39 @@ in-push x y (z ∷ xs) (inr h) = elim (in-push x y xs h) [ inl k ↦ inl (inr k)
 pushed : {A : Type 0} (P : A → Type 0) (xs : List A) (y : A) → ((x : A) → IsIn x xs → P x) → P y → (x : A) → IsIn x (xs ++ y ∷ []) → P x
 pushed P xs y all one x h = elim (in-push x y xs h) [ inl k ↦ all x k | inr e ↦ subst P e one ]
 
+counted_items-push : (items : List NumberedItem) (x : NumberedItem) → counted_items (items ++ x ∷ []) ≡ counted_items items + cond (is_counted x.item) 1 0
+counted_items-push items x =
+    let sums = sum_by-append (λ (y : NumberedItem). cond (is_counted y.item) 1 0) items (x ∷ []) in
+    let last : counted_items (x ∷ []) ≡ 0 + cond {A = ℕ} (is_counted x.item) 1 0 = refl in
+    omega arith
+
 module _ (there : ℕ) where
   -- one more item
   placed-good : (r : Reading) (n : ℕ) (i : Item) (count : ℕ) (h : Header) → r.header ≡ Some h → IsWellFormedItem h.module i → IsGood there r
-      → (there ≤ most_items → count ≤ most_items) → IsGood there (placed r n i count)
-  placed-good r n i count h e one good few =
+      → (there ≤ most_items → count ≤ most_items) → count ≡ r.count + cond (is_counted i) 1 0 → IsGood there (placed r n i count)
+  placed-good r n i count h e one good few more =
       let before : (x : NumberedItem) → IsIn x r.items → IsWellFormedItem h.module x.item = subst (λ o. AreWellFormedUnder o r.items) e good.items in
       let new : NumberedItem = record { term = n; item = i } in
       record {
         items = subst (λ o. AreWellFormedUnder o (r.items ++ new ∷ [])) (sym e) (pushed (λ (x : NumberedItem). IsWellFormedItem h.module x.item) r.items new before one);
+        count = let c = good.count in let p = counted_items-push r.items new in omega arith;
         few = few;
       }
 
   with_placed-good : (r s : Reading) (n : ℕ) (i : Item) (h : Header) → r.header ≡ Some h → IsWellFormedItem h.module i → IsGood there r → with_placed r n i ≡ Ok s → IsGood there s
-  with_placed-good r s n i h e one good made = counted (is_counted i) (nat_lt r.count most_items) refl made
+  with_placed-good r s n i h e one good made = counted (is_counted i) (nat_lt r.count most_items) refl refl made
     where
-      counted : (b c : Bool) → nat_lt r.count most_items ≡ c → cond b (cond c (Ok (placed r n i (r.count + 1))) (Err cause.TooManyItems)) (Ok (placed r n i r.count)) ≡ Ok s → IsGood there s
-      counted true true t made =
+      counted : (b c : Bool) → is_counted i ≡ b → nat_lt r.count most_items ≡ c → cond b (cond c (Ok (placed r n i (r.count + 1))) (Err cause.TooManyItems)) (Ok (placed r n i r.count)) ≡ Ok s → IsGood there s
+      counted true true k t made =
           let room : r.count < most_items = grind (arith, nat_tests) in
           let is : placed r n i (r.count + 1) ≡ s = cc in
-          subst (IsGood there) is (placed-good r n i (r.count + 1) h e one good (λ le. omega arith))
-      counted true false t made = absurd cc
-      counted false c t made = let is : placed r n i r.count ≡ s = cc in subst (IsGood there) is (placed-good r n i r.count h e one good good.few)
+          let more : cond {A = ℕ} (is_counted i) 1 0 ≡ 1 = ap (λ x. cond x 1 0) k in
+          subst (IsGood there) is (placed-good r n i (r.count + 1) h e one good (λ le. omega arith) (ap (λ m. r.count + m) (sym more)))
+      counted true false k t made = absurd cc
+      counted false c k t made =
+          let is : placed r n i r.count ≡ s = cc in
+          let more : cond {A = ℕ} (is_counted i) 1 0 ≡ 0 = ap (λ x. cond x 1 0) k in
+          subst (IsGood there) is (placed-good r n i r.count h e one good good.few (sym (ap (λ m. r.count + m) more ∙ add-zero r.count)))
 
   item-good : (r s : Reading) (n : ℕ) (o : Option Item) (h : Header) → r.header ≡ Some h → IfSome o (IsWellFormedItem h.module) → IsGood there r → with_item_if r n o ≡ Ok s → IsGood there s
   item-good r s n None h e one good made = let is : r ≡ s = cc in subst (IsGood there) is good
@@ -312,7 +324,7 @@ module _ (there : ℕ) where
   said-good : (r s : Reading) (n : ℕ) (said : Result Said LoadCause) (h : Header) → r.header ≡ Some h → ((x : Said) → said ≡ Ok x → Speaks h.module x) → IsGood there r → with_said r n said ≡ Ok s → IsGood there s
   said-good r s n (Err c) h e f good made = absurd cc
   said-good r s n (Ok x) h e f good made =
-      let good' : IsGood there (under x.operators r) = record { items = good.items; few = good.few } in
+      let good' : IsGood there (under x.operators r) = record { items = good.items; count = good.count; few = good.few } in
       item-good (under x.operators r) s n x.item h e (f x refl) good' made
 
   header-good : (r s : Reading) (header : Result Header LoadCause) → r.header ≡ None → IsGood there r → with_header r header ≡ Ok s → IsGood there s
@@ -323,7 +335,7 @@ module _ (there : ℕ) where
       let empty : r.items ≡ [] = subst (λ o. AreWellFormedUnder o r.items) e good.items in
       let none : (x : NumberedItem) → IsIn x r.items → IsWellFormedItem h.module x.item =
       subst (λ (l : List NumberedItem). (x : NumberedItem) → IsIn x l → IsWellFormedItem h.module x.item) (sym empty) (λ x k. absurd k) in
-      subst (IsGood there) is (record { items = none; few = good.few })
+      subst (IsGood there) is (record { items = none; count = good.count; few = good.few })
 
   term_under-good : (o : Option Header) (r s : Reading) (n : ℕ) (read : ReadTerm) → r.header ≡ o → IsReadable read → IsGood there r → with_term_under o r n read ≡ Ok s → IsGood there s
   term_under-good None r s n read e readable good made = header-good r s (ok_or (header_of read.term) cause.NoModule) e good made

@@ -1,5 +1,6 @@
 pub mod Each
 pub mod ListTerms
+pub mod Goals
 pub mod Joined
 pub mod OperatorLists
 pub mod Splits

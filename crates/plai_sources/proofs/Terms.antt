@@ -18,7 +18,7 @@ use Rattle.plai_sources.specs.declared.items.FileItems.{FileItems}
 use Rattle.plai_sources.specs.declared.reading.Reading.{Reading}
 use Rattle.plai_sources.specs.Directives.{said_by}
 use Rattle.plai_sources.specs.Items.{Refusal, refusal, split, last_cause, with_item_if, with_said, with_term_under, with_term, with_tokens as with_tokens_of, finished, finished_under, numbered, and_then, items_of_tokens}
-use Rattle.plai_sources.specs.WellFormed.{IsGood, AreWellFormedItems, AreWellFormedUnder}
+use Rattle.plai_sources.specs.WellFormed.{IsGood, counted_items, AreWellFormedItems, AreWellFormedUnder}
 use Rattle.plai_sources.specs.Answering.{Answers, AnswersFile, AreInside, IsWhole, TakesToken, Ends, Takes, Numbers}
 use Rattle.plai_sources.proofs.Formed.{term-good}
 use Rattle.plai_sources.proofs.Splits.{takes_whole, inside_terms, inside_rest}
@@ -131,6 +131,19 @@ finished-formed there (Some header) r f e good h =
 pub finishes-formed : (there : ℕ) (r : Reading) (res : Result FileItems ItemsFail) → IsGood there r → AnswersFile (finished r) res → IfOk res AreWellFormedItems
 finishes-formed there r (Ok f) good a = finished-formed there r.header r f refl good a
 finishes-formed there r (Err fail) good a = tt
+
+finished-counted : (there : ℕ) (o : Option Header) (r : Reading) (f : FileItems) → IsGood there r → finished_under o r ≡ Ok f → f.count ≡ there + counted_items f.items
+finished-counted there None r f good h = absurd cc
+finished-counted there (Some header) r f good h =
+    let made : FileItems = record { «module» = header.module; exports = header.exports; items = r.items; count = r.count } in
+    let is : made ≡ f = cc in
+    subst (λ (g : FileItems). g.count ≡ there + counted_items g.items) is good.count
+
+-- the count goes on by what is kept
+pub finishes-counted : (there : ℕ) (r : Reading) (res : Result FileItems ItemsFail) → IsGood there r → AnswersFile (finished r) res
+    → IfOk res (λ f. f.count ≡ there + counted_items f.items)
+finishes-counted there r (Ok f) good a = finished-counted there r.header r f good a
+finishes-counted there r (Err fail) good a = tt
 
 pub good_next : (there : ℕ) (given : Result Reading TermFail) (next : Reading) → IfOk given (IsGood there) → given ≡ Ok next → IsGood there next
 good_next there given next h e = subst (λ (g : Result Reading TermFail). IfOk g (IsGood there)) e h

@@ -1,5 +1,5 @@
 -- What is known of the items of a file.
-use Rattle.std.specs.Prelude.{◌≡◌, ℕ, ◌≤◌, All, IsTrue, Option, Some, None, List, [], IsOk}
+use Rattle.std.specs.Prelude.{◌≡◌, ℕ, ◌+◌, ◌≤◌, count_by, All, IsTrue, Option, Some, None, List, [], IsOk}
 use Rattle.plai_theory.specs.Words.{IsIn}
 use Rattle.plai_terms.specs.declared.read_term.ReadTerm.{ReadTerm}
 use Rattle.plai_terms.specs.Readable.{IsReadable}
@@ -15,7 +15,7 @@ use Rattle.plai_sources.specs.declared.items.NumberedItem.{NumberedItem}
 use Rattle.plai_sources.specs.declared.items.FileItems.{FileItems}
 use Rattle.plai_sources.specs.declared.items.Header.{Header}
 use Rattle.plai_sources.specs.declared.reading.Reading.{Reading}
-use Rattle.plai_sources.specs.Items.{most_items}
+use Rattle.plai_sources.specs.Items.{most_items, is_counted}
 
 -- a term as it was read that says a clause in the module
 pub record IsClauseItem (own : List ℕ) (read : ReadTerm) : Type 0 where
@@ -49,7 +49,12 @@ abbrev pub AreWellFormedUnder : Option Header → List NumberedItem → Type 0
 AreWellFormedUnder None items = items ≡ []
 AreWellFormedUnder (Some h) items = (numbered : NumberedItem) → IsIn numbered items → IsWellFormedItem h.module numbered.item
 
--- a file so far is well formed, and with it the program has no more items than are allowed, if it hadn't before
+-- how many clauses, entries and checks there are among items
+abbrev pub counted_items : List NumberedItem → ℕ
+counted_items items = count_by (λ numbered. is_counted numbered.item) items
+
+-- a file so far is well formed, its items are counted on, and with it the program has no more items than are allowed, if it hadn't before
 pub record IsGood (there : ℕ) (r : Reading) : Type 0 where
   pub items : AreWellFormedUnder r.header r.items
+  pub count : r.count ≡ there + counted_items r.items
   pub few : there ≤ most_items → r.count ≤ most_items

@@ -33,7 +33,9 @@ pub enum Item {
     /// An import from the module of that name, which isn't this one: of the names and numbers of arguments that are
     /// listed, or of all that it exports where there is no list.
     UseModule(Name, Option<Listed<(Name, u32)>>),
+    /// An entry.
     Entry(EntryItem),
+    /// An assertion.
     Check(CheckItem),
     /// A clause as it was read. What its goals call is settled once the imports of all files are known.
     Clause(ReadTerm),

@@ -1,5 +1,5 @@
 //! Reads the terms of a text one after the other.
-ghost use Rattle.std.specs.Prelude.{◌≡◌, ℕ, ◌<◌, ◌≤◌, ◌^◌, length, ok_or, All, IfOk, IfSome};
+ghost use Rattle.std.specs.Prelude.{◌≡◌, ℕ, ◌+◌, ◌<◌, ◌≤◌, ◌^◌, length, count_by, ok_or, All, IfOk, IfSome};
 ghost use Rattle.plai_lex.specs.Tokens.{IsWritten};
 ghost use Rattle.plai_terms.specs.Readable.{IsReadable};
 ghost use Rattle.plai_reader.specs.Roles.{is_end};
@@ -224,13 +224,14 @@ fn finish(reading: Reading) -> Result<FileItems, ItemsFail>
     }
 }
 
-/// What the text of a file says, where the program has `there` clauses, entries and checks of earlier files
-/// (ISO/IEC 13211-1:1995, 6.2.1 and 7.4). Terms are numbered from 1. A refusal is the first of the file: for one term the
-/// text comes before its form, and that before the number of items.
+/// What the text of a file, of fewer than 2^31 bytes, says, where the program has `there` clauses, entries and checks of
+/// earlier files (ISO/IEC 13211-1:1995, 6.2.1 and 7.4). Terms are numbered from 1. A refusal is the first of the file: for
+/// one term the text comes before its form, and that before the number of items.
 pub fn read_items(alloc: Global, text: &[u8], there: u64) -> Result<FileItems, ItemsFail>
     requires { length text.now < 2 ^ 31 }
     ensures answer { AnswersFile (items_of text.now there) result }
     ensures well_formed { IfOk result AreWellFormedItems }
+    ensures counted { IfOk result (λ file. file.count ≡ there + count_by (λ numbered. is_counted numbered.item) file.items) }
     ensures few { there ≤ 65536 → IfOk result (λ file. file.count ≤ 65536) }
 {
     let mut lexer = Lexer::new(text);

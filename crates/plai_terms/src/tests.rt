@@ -4,7 +4,7 @@ ghost use Rattle.plai_terms.specs.Pattern.{arity_of};
 use crate::{
     Abs, Args, Listed, Name, NonEmpty, Outcome, PredKey, Prop, ReadTerm, RowName, Skeleton, Subst,
     Term, equality_is_exact, print_abs, print_atom, print_name, print_quoted, print_term,
-    rows_are_ordered, term_texts_differ, texts_differ,
+    rows_are_ordered, term_texts_differ, texts_differ, unifiers_are_most_general, unify,
 };
 use plai_base::Mask;
 use std::alloc::{AllocError, Global};
@@ -114,28 +114,40 @@ fn pair(alloc: Global, first: Term, second: Term) -> Result<Term, AllocError> {
     Ok(Term::Compound(name(alloc, b"f")?, Args::new(items)))
 }
 
+/// The bindings of a unification of two terms, each as `variable=term`, or why there is none.
+fn unification(alloc: Global, left: Term, right: Term) -> Result<Vec<u8>, AllocError> {
+    let mut out = Vec::new(alloc);
+    match unify(alloc, &[left], &[right])? {
+        Outcome::Unified(subst) => {
+            for binding in subst.as_slice() {
+                print_term(alloc, &Term::Var(binding.0), &mut out)?;
+                out.push(b'=')?;
+                print_term(alloc, &binding.1, &mut out)?;
+            }
+        }
+        Outcome::Clash => out.extend_from_slice(b"clash")?,
+        Outcome::Occurs => out.extend_from_slice(b"occurs")?,
+    }
+    Ok(out)
+}
+
 #[test]
 fn terms_unify(rt: HostRuntime) -> Result<(), Fail> {
     let alloc = rt.alloc();
     unifiers_are_most_general();
     let left = pair(alloc, Term::Var(0), atom(alloc, b"b")?)?;
     let right = pair(alloc, atom(alloc, b"a")?, Term::Var(1))?;
-    let unified = pair(alloc, atom(alloc, b"a")?, atom(alloc, b"b")?)?;
-    match unify(alloc, &[left.copy(alloc)?], &[right.copy(alloc)?])? {
-        Outcome::Unified(subst) => {
-            assert_eq!(rt; subst.as_slice().len(), 2);
-            assert_eq!(rt; subst.apply(alloc, &Term::Var(0))?, atom(alloc, b"a")?);
-            assert_eq!(rt; subst.apply(alloc, &Term::Var(1))?, atom(alloc, b"b")?);
-            assert_eq!(rt; subst.apply(alloc, &left)?, unified);
-            assert_eq!(rt; subst.apply(alloc, &right)?, unified);
-        }
-        Outcome::Clash | Outcome::Occurs => assert!(rt; false),
-    }
+    assert!(rt; unification(alloc, left, right)?.as_slice() == b"_0=a_1=b".as_slice());
+    Ok(())
+}
+
+#[test]
+fn terms_that_do_not_unify(rt: HostRuntime) -> Result<(), Fail> {
+    let alloc = rt.alloc();
     let inside = pair(alloc, Term::Int(3), Term::Var(0))?;
-    let occurs = unify(alloc, &[Term::Var(0)], &[inside])?;
-    assert!(rt; matches!(occurs, Outcome::Occurs));
-    let clash = unify(alloc, &[atom(alloc, b"a")?], &[atom(alloc, b"b")?])?;
-    assert!(rt; matches!(clash, Outcome::Clash));
+    assert!(rt; unification(alloc, Term::Var(0), inside)?.as_slice() == b"occurs".as_slice());
+    let (first, second) = (atom(alloc, b"a")?, atom(alloc, b"b")?);
+    assert!(rt; unification(alloc, first, second)?.as_slice() == b"clash".as_slice());
     Ok(())
 }
 

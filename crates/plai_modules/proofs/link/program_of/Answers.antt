@@ -1,5 +1,6 @@
 use Rattle.std.proofs.Common.{sym, subst}
 use Rattle.plai_sources.specs.WellFormed.{AreWellFormedItems}
+use Rattle.plai_modules.proofs.Counted.{program-counted}
 use Rattle.plai_modules.proofs.Formed.{formed-program}
 use Rattle.plai_modules.proofs.Passes.{link_all}
 use Rattle.plai_modules.proofs.link.program_of.Goals as goal
@@ -14,3 +15,8 @@ returns-clause-well_formed c =
     let files = c.args.files.now in
     formed-program laws.added_module laws.added_clause laws.added_entry laws.added_check c.clause_law.ensures files c.loop-i.program c.requires.items
     (link_all files c.loop-i.i c.loop-i.program c.loop-i.invariant c.loop-i-test.false)
+
+pub returns-clause-few : goal.returns-clause-few
+returns-clause-few c =
+    let files = c.args.files.now in
+    program-counted files c.loop-i.program (link_all files c.loop-i.i c.loop-i.program c.loop-i.invariant c.loop-i-test.false)

@@ -26,7 +26,7 @@ sort_rows-requires g c =
     let names = names_in value_of c.in_ok-reached.reached.entries in
     let done : IsDone p c.args.program.now c.args.limit rows = settled_done p c.args.program.now c.args.limit _ value_of c.in_ok-rows.rows.entries rows c.in_ok-rows.ensures.whole c.in_ok-settle.ensures.settled in
     let narrow : All IsNarrow (plain_rows p rows names) =
-    rows_narrow p (g.met.D.Domain.lawful c.args.domain.now) (g.met.D.Domain.printed c.args.domain.now) c.args.program.now c.requires c.args.limit rows done names c.in_ok-reached.ensures.reaching.reached in
+    rows_narrow p (g.met.D.Domain.lawful c.args.domain.now) (g.met.D.Domain.printed c.args.domain.now) c.args.program.now c.is_program.ensures.well_formed c.args.limit rows done names c.in_ok-reached.ensures.reaching.reached in
     subst (All IsNarrow) (sym c.in_ok-table.ensures) narrow
 
 pub returns-in_err-sort_rows-clause-causes : goal.returns-in_err-sort_rows-clause-causes
@@ -47,8 +47,8 @@ returns-clause-table g c =
     let done : IsDone p c.args.program.now c.args.limit rows = settled_done p c.args.program.now c.args.limit _ value_of c.in_ok-rows.rows.entries rows c.in_ok-rows.ensures.whole c.in_ok-settle.ensures.settled in
     let sorted = c.sort_rows.new.rows.items in
     let moved : IsPermutation (plain_rows p rows names) sorted = subst (λ (xs : List PlainRow). IsPermutation xs sorted) c.in_ok-table.ensures c.in_ok-sort_rows.ensures.permutation in
-    let apart : AreApart c.in_ok-table.table.items = subst AreApart (sym c.in_ok-table.ensures) (rows_apart p laws printed c.args.program.now c.requires c.args.limit rows done names reaching.distinct reaching.reached) in
-    least p laws printed c.args.program.now c.requires c.args.limit rows done names reaching c.in_ok-reached.ensures.calls sorted moved (c.in_ok-sort_rows.ensures.in_order apart)
+    let apart : AreApart c.in_ok-table.table.items = subst AreApart (sym c.in_ok-table.ensures) (rows_apart p laws printed c.args.program.now c.is_program.ensures.well_formed c.args.limit rows done names reaching.distinct reaching.reached) in
+    least p laws printed c.args.program.now c.is_program.ensures.well_formed c.args.limit rows done names reaching c.in_ok-reached.ensures.calls sorted moved (c.in_ok-sort_rows.ensures.in_order apart)
 
 pub returns-clause-within : goal.returns-clause-within
 returns-clause-within g c =
@@ -61,7 +61,7 @@ returns-clause-within g c =
     let done : IsDone p c.args.program.now c.args.limit rows = settled_done p c.args.program.now c.args.limit _ value_of c.in_ok-rows.rows.entries rows c.in_ok-rows.ensures.whole c.in_ok-settle.ensures.settled in
     let sorted = c.sort_rows.new.rows.items in
     let moved : IsPermutation (plain_rows p rows names) sorted = subst (λ (xs : List PlainRow). IsPermutation xs sorted) c.in_ok-table.ensures c.in_ok-sort_rows.ensures.permutation in
-    table_within p laws printed c.args.program.now c.requires c.args.limit rows done names c.in_ok-reached.ensures.reaching c.in_ok-reached.ensures.calls sorted moved
+    table_within p laws printed c.args.program.now c.is_program.ensures.well_formed c.args.limit rows done names c.in_ok-reached.ensures.reaching c.in_ok-reached.ensures.calls sorted moved
 
 pub returns-clause-not_over : goal.returns-clause-not_over
 returns-clause-not_over g c =
@@ -69,4 +69,4 @@ returns-clause-not_over g c =
     let value_of = g.D.Domain.value_of in
     let rows = rows_of value_of p c.settle.new.rows.entries in
     let done : IsDone p c.args.program.now c.args.limit rows = settled_done p c.args.program.now c.args.limit _ value_of c.in_ok-rows.rows.entries rows c.in_ok-rows.ensures.whole c.in_ok-settle.ensures.settled in
-    not_over p (g.met.D.Domain.lawful c.args.domain.now) c.args.program.now c.requires c.args.limit rows done.making done.quiet done.entries
+    not_over p (g.met.D.Domain.lawful c.args.domain.now) c.args.program.now c.is_program.ensures.well_formed c.args.limit rows done.making done.quiet done.entries

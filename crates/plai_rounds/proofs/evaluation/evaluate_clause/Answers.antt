@@ -1,5 +1,6 @@
+use Rattle.std.proofs.Common.{refl}
 use Rattle.plai_rounds.specs.Names.{rows_of}
-use Rattle.plai_rounds.proofs.Evaluated.{same_names, not_over, is_over}
+use Rattle.plai_rounds.proofs.Evaluated.{same_names, not_over}
 use Rattle.plai_rounds.proofs.evaluation.evaluate_clause.Goals as goal
 
 pub returns-in-Ok-clause-ok : goal.returns-in-Ok-clause-ok
@@ -14,6 +15,4 @@ returns-in-Ok-clause-ok g c =
 
 pub returns-in_ok-to_abs-in-Err-Over-clause-err : goal.returns-in_ok-to_abs-in-Err-Over-clause-err
 returns-in_ok-to_abs-in-Err-Over-clause-err g c =
-    let p = g.D.Domain.plain c.args.domain.now in
-    let value_of = g.D.Domain.value_of in
-    is_over p (rows_of value_of p c.args.rows.now.entries) c.args.clause.now (value_of c.args.name.now.call) (c.in-Err-Over.literal, c.in-Err-Over.place) (rw c.in-Err-Over.field-0-is at c.in-Err-Over.ensures.over)
+    ((λ i. record { pred = c.in_ok-copy-in-Err-Over.ensures i; call = c.in_ok-to_abs-in-Err-Over.ensures i }), refl, rw c.in-Err-Over.field-0-is at c.in-Err-Over.ensures.over)

@@ -8,22 +8,22 @@ use Rattle.plai_rounds.specs.Reaching.{HasCalls}
 use Rattle.plai_rounds.specs.Causes.{HasCause}
 use Rattle.plai_rounds.proofs.Lists.{if_err, get_in}
 use Rattle.plai_rounds.proofs.Fits.{answers_fit}
-use Rattle.plai_rounds.proofs.Causes.{over_cause}
+use Rattle.plai_rounds.proofs.Causes.{over_cause, in_clauses}
 use Rattle.plai_rounds.proofs.Working.{evaluation_as}
-use Rattle.plai_rounds.proofs.Reaching.{name_at_place, same_place, reached_near, reached_call, called_reached, reach_adds, reach_cause}
+use Rattle.plai_rounds.proofs.Reaching.{name_at_place, same_place, reached_near, name_reached, reached_call, called_reached, reach_adds, reach_cause}
 use Rattle.plai_rounds.proofs.reach.reach_clause.Goals as goal
 
 pub evaluate_clause-requires-clause-clause : goal.evaluate_clause-requires-clause-clause
 evaluate_clause-requires-clause-clause g c =
     let value_of = g.D.Domain.value_of in
     let key = c.name_at-name.result.now in
-    c.requires.well_formed.clauses key.pred c.args.clause.now (c.requires.clause (key_name value_of key) (name_at_place value_of c.args.reached.now.entries c.args.index key c.name_at-name.ensures))
+    c.requires.well_formed.clauses key.pred c.args.clause.now (in_clauses c.args.task.now.program.now key.pred c.args.number c.args.clause.now (c.requires.clause (key_name value_of key) (name_at_place value_of c.args.reached.now.entries c.args.index key c.name_at-name.ensures)))
 
 pub evaluate_clause-requires-clause-arity : goal.evaluate_clause-requires-clause-arity
 evaluate_clause-requires-clause-arity g c =
     let value_of = g.D.Domain.value_of in
     let key = c.name_at-name.result.now in
-    c.requires.well_formed.arities key.pred c.args.clause.now (c.requires.clause (key_name value_of key) (name_at_place value_of c.args.reached.now.entries c.args.index key c.name_at-name.ensures))
+    c.requires.well_formed.arities key.pred c.args.clause.now (in_clauses c.args.task.now.program.now key.pred c.args.number c.args.clause.now (c.requires.clause (key_name value_of key) (name_at_place value_of c.args.reached.now.entries c.args.index key c.name_at-name.ensures)))
 
 pub evaluate_clause-requires-clause-call : goal.evaluate_clause-requires-clause-call
 evaluate_clause-requires-clause-call g c =
@@ -49,12 +49,14 @@ returns-in_err-calls-clause-causes g c =
     let rows = rows_of value_of p c.args.rows.now.entries in
     let key = c.name_at-name.result.now in
     let here = name_at_place value_of c.args.reached.now.entries c.args.index key c.name_at-name.ensures in
-    let inside = c.requires.clause (key_name value_of key) here in
+    let numbered = c.requires.clause (key_name value_of key) here in
+    let inside = in_clauses program key.pred c.args.number c.args.clause.now numbered in
     let reached = c.requires.reaching.reached (key_name value_of key) (get_in _ c.args.index _ here) in
-    let told : IfErr c.from_residual.result (TellsOver p rows c.args.clause.now (value_of key.call)) = search rules in
-    if_err (TellsOver p rows c.args.clause.now (value_of key.call)) (HasCause p program limit) c.from_residual.result told
+    let told : IfErr c.from_residual.result (TellsOver p rows (key_name value_of key) c.args.number c.args.clause.now) = search rules in
+    if_err (TellsOver p rows (key_name value_of key) c.args.number c.args.clause.now) (HasCause p program limit) c.from_residual.result told
     (over_cause p laws program c.requires.well_formed limit rows c.requires.done.making.made (key_name value_of key)
-    (reached_near p laws program c.requires.well_formed limit rows c.requires.done (key_name value_of key) reached) c.args.clause.now inside)
+    (reached_near p laws program c.requires.well_formed limit rows c.requires.done (key_name value_of key) reached)
+    (name_reached p laws program c.requires.well_formed limit rows c.requires.done (key_name value_of key) reached) c.args.number c.args.clause.now numbered)
 
 pub returns-in_err-add_all-clause-causes : goal.returns-in_err-add_all-clause-causes
 returns-in_err-add_all-clause-causes g c =
@@ -66,7 +68,8 @@ returns-in_err-add_all-clause-causes g c =
     let rows = rows_of value_of p c.args.rows.now.entries in
     let key = c.name_at-name.result.now in
     let here = name_at_place value_of c.args.reached.now.entries c.args.index key c.name_at-name.ensures in
-    let inside = c.requires.clause (key_name value_of key) here in
+    let numbered = c.requires.clause (key_name value_of key) here in
+    let inside = in_clauses program key.pred c.args.number c.args.clause.now numbered in
     let reached = c.requires.reaching.reached (key_name value_of key) (get_in _ c.args.index _ here) in
     let called = map (key_name value_of) c.into_vec.result.items in
     let evaluation = evaluation_as p rows c.args.clause.now (value_of key.call) _ (option_map value_of c.in_ok-calls.field-0.answer) _ called
@@ -86,7 +89,8 @@ returns-clause-step g c =
     let rows = rows_of value_of p c.args.rows.now.entries in
     let key = c.name_at-name.result.now in
     let here = name_at_place value_of c.args.reached.now.entries c.args.index key c.name_at-name.ensures in
-    let inside = c.requires.clause (key_name value_of key) here in
+    let numbered = c.requires.clause (key_name value_of key) here in
+    let inside = in_clauses program key.pred c.args.number c.args.clause.now numbered in
     let reached = c.requires.reaching.reached (key_name value_of key) (get_in _ c.args.index _ here) in
     let called = map (key_name value_of) c.into_vec.result.items in
     let evaluation = evaluation_as p rows c.args.clause.now (value_of key.call) _ (option_map value_of c.in_ok-calls.field-0.answer) _ called
@@ -105,7 +109,8 @@ returns-clause-calls g c =
     let rows = rows_of value_of p c.args.rows.now.entries in
     let key = c.name_at-name.result.now in
     let here = name_at_place value_of c.args.reached.now.entries c.args.index key c.name_at-name.ensures in
-    let inside = c.requires.clause (key_name value_of key) here in
+    let numbered = c.requires.clause (key_name value_of key) here in
+    let inside = in_clauses program key.pred c.args.number c.args.clause.now numbered in
     let reached = c.requires.reaching.reached (key_name value_of key) (get_in _ c.args.index _ here) in
     let called = map (key_name value_of) c.into_vec.result.items in
     let evaluation = evaluation_as p rows c.args.clause.now (value_of key.call) _ (option_map value_of c.in_ok-calls.field-0.answer) _ called

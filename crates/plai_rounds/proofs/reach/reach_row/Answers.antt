@@ -1,9 +1,9 @@
-use Rattle.std.proofs.Common.{◌≡◌, ◌+◌, length, refl, ap, subst, arith}
-use Rattle.plai_theory.specs.Words.{IsIn}
-use Rattle.plai_clauses.specs.Program.{clauses_of}
+use Rattle.std.proofs.Common.{◌≡◌, ◌+◌, ◌-◌, Some, length, slice_get, refl, ap, subst, arith}
 use Rattle.plai_rounds.specs.Names.{key_name, names_in, rows_of}
-use Rattle.plai_rounds.proofs.Lists.{in_at, get_or_get, length_map}
+use Rattle.plai_rounds.specs.Causes.{IsClauseOf}
+use Rattle.plai_rounds.proofs.Lists.{get_or_get, length_map}
 use Rattle.plai_rounds.proofs.Reaching.{name_at_place, same_place, reach_then, no_reach, reach_longer, called_more, called_all}
+use Rattle.plai_rounds.proofs.Sweeping.{numbered}
 use Rattle.plai_rounds.proofs.reach.reach_row.Goals as goal
 
 pub loop-clause-init : goal.loop-clause-init
@@ -30,10 +30,11 @@ reach_clause-requires-clause-clause g c =
     let program = c.args.task.now.program.now in
     let key = c.name_at-name.result.now in
     let here = c.loop-clause.invariant.step.keeps c.args.index (key_name value_of key) (name_at_place value_of c.args.reached.now.entries c.args.index key c.name_at-name.ensures) in
-    let i : IsIn c.clause-item.result c.clauses_of-clauses.result.now = in_at _ c.loop-clause.clause-index _ c.loop-clause-test.true c.clause-item.is in
+    let n = numbered c.clauses_of-clauses.result.now c.loop-clause.clause-index c.loop-clause.number c.clause-item.result c.loop-clause.invariant.number
+    (get_or_get _ c.loop-clause.clause-index _ c.loop-clause-test.true c.clause-item.is) in
+    let of : IsClauseOf program key.pred (c.loop-clause.number + 1) c.clause-item.result = (n.0, subst (λ clauses. slice_get clauses (c.loop-clause.number + 1 - 1) ≡ Some c.clause-item.result) c.clauses_of-clauses.ensures n.1) in
     λ x is.
-    subst (λ y. IsIn c.clause-item.result (clauses_of program y.pred)) (same_place _ c.args.index (key_name value_of key) x here is)
-    (subst (IsIn c.clause-item.result) c.clauses_of-clauses.ensures i)
+    subst (λ y. IsClauseOf program y.pred (c.loop-clause.number + 1) c.clause-item.result) (same_place _ c.args.index (key_name value_of key) x here is) of
 
 pub loop-clause-preserved : goal.loop-clause-preserved
 loop-clause-preserved g c =

@@ -9,7 +9,7 @@ use Rattle.plai_rounds.specs.Changes.{both_of}
 use Rattle.plai_rounds.specs.Causes.{HasCause}
 use Rattle.plai_rounds.proofs.Lists.{if_err, get_in}
 use Rattle.plai_rounds.proofs.Fits.{call_fits, answers_fit}
-use Rattle.plai_rounds.proofs.Causes.{made_near, adding_cause, over_cause}
+use Rattle.plai_rounds.proofs.Causes.{made_near, adding_cause, over_cause, in_clauses}
 use Rattle.plai_rounds.proofs.Working.{entry_at, at_name, one_name, own_row, entry_stays, answer_of_entry, evaluation_as, both_values, had_fits, given_fits, asked, clause_works}
 use Rattle.plai_rounds.proofs.rounds.work_clause.Goals as goal
 
@@ -20,7 +20,7 @@ evaluate_clause-requires-clause-clause g c =
     let entries = c.args.rows.now.entries in
     let key = c.name_at-name.result.now in
     let (had, at) = entry_at entries c.args.index key c.name_at-name.ensures in
-    c.requires.well_formed.clauses key.pred c.args.clause.now (c.requires.clause (key_name value_of key) (at_name value_of p entries c.args.index key had at))
+    c.requires.well_formed.clauses key.pred c.args.clause.now (in_clauses c.args.task.now.program.now key.pred c.args.number c.args.clause.now (c.requires.clause (key_name value_of key) (at_name value_of p entries c.args.index key had at)))
 
 pub evaluate_clause-requires-clause-arity : goal.evaluate_clause-requires-clause-arity
 evaluate_clause-requires-clause-arity g c =
@@ -29,7 +29,7 @@ evaluate_clause-requires-clause-arity g c =
     let entries = c.args.rows.now.entries in
     let key = c.name_at-name.result.now in
     let (had, at) = entry_at entries c.args.index key c.name_at-name.ensures in
-    c.requires.well_formed.arities key.pred c.args.clause.now (c.requires.clause (key_name value_of key) (at_name value_of p entries c.args.index key had at))
+    c.requires.well_formed.arities key.pred c.args.clause.now (in_clauses c.args.task.now.program.now key.pred c.args.number c.args.clause.now (c.requires.clause (key_name value_of key) (at_name value_of p entries c.args.index key had at)))
 
 pub evaluate_clause-requires-clause-call : goal.evaluate_clause-requires-clause-call
 evaluate_clause-requires-clause-call g c =
@@ -57,11 +57,11 @@ returns-in_err-answer-clause-causes g c =
     let laws = g.met.D.Domain.lawful c.args.task.now.domain.now in
     let (had, at) = entry_at entries c.args.index key c.name_at-name.ensures in
     let here = at_name value_of p entries c.args.index key had at in
-    let told : IfErr c.from_residual.result (TellsOver p (rows_of value_of p entries) c.args.clause.now (value_of key.call)) = search rules in
-    if_err (TellsOver p (rows_of value_of p entries) c.args.clause.now (value_of key.call)) (HasCause p program c.args.task.now.limit) c.from_residual.result told
+    let told : IfErr c.from_residual.result (TellsOver p (rows_of value_of p entries) (key_name value_of key) c.args.number c.args.clause.now) = search rules in
+    if_err (TellsOver p (rows_of value_of p entries) (key_name value_of key) c.args.number c.args.clause.now) (HasCause p program c.args.task.now.limit) c.from_residual.result told
     (over_cause p laws program c.requires.well_formed c.args.task.now.limit (rows_of value_of p entries) c.requires.making.made (key_name value_of key)
     (made_near p laws program c.requires.well_formed c.args.task.now.limit (rows_of value_of p entries) c.requires.making.made (key_name value_of key) (get_in _ c.args.index _ here))
-    c.args.clause.now (c.requires.clause (key_name value_of key) here))
+    (get_in _ c.args.index _ here) c.args.number c.args.clause.now (c.requires.clause (key_name value_of key) here))
 
 pub returns-in_err-added-clause-causes : goal.returns-in_err-added-clause-causes
 returns-in_err-added-clause-causes g c =
@@ -73,7 +73,7 @@ returns-in_err-added-clause-causes g c =
     let limit = c.args.task.now.limit in
     let laws = g.met.D.Domain.lawful c.args.task.now.domain.now in
     let (had, at) = entry_at entries c.args.index key c.name_at-name.ensures in
-    let inside = c.requires.clause (key_name value_of key) (at_name value_of p entries c.args.index key had at) in
+    let inside = in_clauses program key.pred c.args.number c.args.clause.now (c.requires.clause (key_name value_of key) (at_name value_of p entries c.args.index key had at)) in
     let called = map (key_name value_of) c.into_vec.result.items in
     let evaluation = evaluation_as p (rows_of value_of p entries) c.args.clause.now (value_of key.call) _ (option_map value_of c.in_ok-answer.field-0.answer) _ called
     refl (ap (map (key_name value_of)) c.into_vec.ensures) c.in_ok-answer.ensures.ok in
@@ -92,7 +92,7 @@ raise-requires-clause-alike g c =
     let limit = c.args.task.now.limit in
     let laws = g.met.D.Domain.lawful c.args.task.now.domain.now in
     let (had, at) = entry_at entries c.args.index key c.name_at-name.ensures in
-    let inside = c.requires.clause (key_name value_of key) (at_name value_of p entries c.args.index key had at) in
+    let inside = in_clauses program key.pred c.args.number c.args.clause.now (c.requires.clause (key_name value_of key) (at_name value_of p entries c.args.index key had at)) in
     let called = map (key_name value_of) c.into_vec.result.items in
     let evaluation = evaluation_as p (rows_of value_of p entries) c.args.clause.now (value_of key.call) _ (option_map value_of c.in_ok-answer.field-0.answer) _ called
     refl (ap (map (key_name value_of)) c.into_vec.ensures) c.in_ok-answer.ensures.ok in
@@ -114,7 +114,7 @@ returns-clause-step g c =
     let limit = c.args.task.now.limit in
     let laws = g.met.D.Domain.lawful c.args.task.now.domain.now in
     let (had, at) = entry_at entries c.args.index key c.name_at-name.ensures in
-    let inside = c.requires.clause (key_name value_of key) (at_name value_of p entries c.args.index key had at) in
+    let inside = in_clauses program key.pred c.args.number c.args.clause.now (c.requires.clause (key_name value_of key) (at_name value_of p entries c.args.index key had at)) in
     let called = map (key_name value_of) c.into_vec.result.items in
     let evaluation = evaluation_as p (rows_of value_of p entries) c.args.clause.now (value_of key.call) _ (option_map value_of c.in_ok-answer.field-0.answer) _ called
     refl (ap (map (key_name value_of)) c.into_vec.ensures) c.in_ok-answer.ensures.ok in
@@ -134,7 +134,7 @@ returns-clause-quiet g c =
     let laws = g.met.D.Domain.lawful c.args.task.now.domain.now in
     let (had, at) = entry_at entries c.args.index key c.name_at-name.ensures in
     let here = at_name value_of p entries c.args.index key had at in
-    let inside = c.requires.clause (key_name value_of key) here in
+    let inside = in_clauses program key.pred c.args.number c.args.clause.now (c.requires.clause (key_name value_of key) here) in
     let called = map (key_name value_of) c.into_vec.result.items in
     let evaluation = evaluation_as p (rows_of value_of p entries) c.args.clause.now (value_of key.call) _ (option_map value_of c.in_ok-answer.field-0.answer) _ called
     refl (ap (map (key_name value_of)) c.into_vec.ensures) c.in_ok-answer.ensures.ok in

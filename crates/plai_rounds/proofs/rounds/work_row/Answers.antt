@@ -1,12 +1,11 @@
-use Rattle.std.proofs.Common.{◌≡◌, ◌+◌, length, sym, ap, ◌∙◌, subst, arith}
-use Rattle.plai_theory.specs.Words.{IsIn}
-use Rattle.plai_clauses.specs.Program.{clauses_of}
+use Rattle.std.proofs.Common.{◌≡◌, ◌+◌, ◌-◌, Some, length, slice_get, sym, ap, ◌∙◌, subst, arith}
 use Rattle.plai_rounds.specs.Names.{key_name, rows_of}
 use Rattle.plai_rounds.specs.Making.{IsStep}
-use Rattle.plai_rounds.proofs.Lists.{in_at, get_or_get, length_map}
+use Rattle.plai_rounds.specs.Causes.{IsClauseOf}
+use Rattle.plai_rounds.proofs.Lists.{get_or_get, length_map}
 use Rattle.plai_rounds.proofs.Steps.{step_then, step_longer}
 use Rattle.plai_rounds.proofs.Working.{entry_at, at_name, one_name}
-use Rattle.plai_rounds.proofs.Sweeping.{clauses_more, clauses_all}
+use Rattle.plai_rounds.proofs.Sweeping.{numbered, clauses_more, clauses_all}
 use Rattle.plai_rounds.proofs.rounds.work_row.Goals as goal
 
 pub work_clause-requires-clause-index : goal.work_clause-requires-clause-index
@@ -26,10 +25,11 @@ work_clause-requires-clause-clause g c =
     let key = c.name_at-name.result.now in
     let (had, at) = entry_at c.args.rows.now.entries c.args.index key c.name_at-name.ensures in
     let here = c.loop-clause.invariant.step.keeps c.args.index (key_name value_of key) (at_name value_of p c.args.rows.now.entries c.args.index key had at) in
-    let i : IsIn c.clause-item.result c.clauses_of-clauses.result.now = in_at _ c.loop-clause.clause-index _ c.loop-clause-test.true c.clause-item.is in
+    let n = numbered c.clauses_of-clauses.result.now c.loop-clause.clause-index c.loop-clause.number c.clause-item.result c.loop-clause.invariant.number
+    (get_or_get _ c.loop-clause.clause-index _ c.loop-clause-test.true c.clause-item.is) in
+    let of : IsClauseOf program key.pred (c.loop-clause.number + 1) c.clause-item.result = (n.0, subst (λ clauses. slice_get clauses (c.loop-clause.number + 1 - 1) ≡ Some c.clause-item.result) c.clauses_of-clauses.ensures n.1) in
     λ x is.
-    subst (λ y. IsIn c.clause-item.result (clauses_of program y.pred)) (one_name p (rows_of value_of p c.loop-clause.rows.entries) c.args.index (key_name value_of key) x here is)
-    (subst (IsIn c.clause-item.result) c.clauses_of-clauses.ensures i)
+    subst (λ y. IsClauseOf program y.pred (c.loop-clause.number + 1) c.clause-item.result) (one_name p (rows_of value_of p c.loop-clause.rows.entries) c.args.index (key_name value_of key) x here is) of
 
 pub loop-clause-preserved : goal.loop-clause-preserved
 loop-clause-preserved g c =

@@ -2,10 +2,10 @@ use Rattle.std.proofs.Common.{◌≡◌, ◌∙◌, sym, ap, subst, false, true,
 use Rattle.std.proofs.lemmas.Result.{err_from_is_err_and}
 use Rattle.plai_terms.specs.declared.term.Term.{Term}
 use Rattle.plai_clauses.specs.ClauseOf.{is_conjunction}
-use Rattle.plai_clauses.proofs.Bodies.{joined_at, single_at}
 use Rattle.plai_sources.specs.Shapes.{each}
 use Rattle.plai_sources.specs.Properties.{property_of}
 use Rattle.plai_sources.specs.Answering.{Puts}
+use Rattle.plai_sources.proofs.Goals.{joined_at, single_at}
 use Rattle.plai_sources.proofs.Joined.{put_more, put_fails, put_all}
 use Rattle.plai_sources.proofs.properties.+push_properties.Goals as goal
 

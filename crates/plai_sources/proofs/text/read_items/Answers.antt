@@ -1,8 +1,8 @@
-use Rattle.std.proofs.Common.{sym, subst, ap, ◌∙◌, refl, arith}
+use Rattle.std.proofs.Common.{sym, subst, ap, ◌∙◌, refl, arith, add-zero}
 use Rattle.std.proofs.lemmas.Result.{err_from_is_err_and}
 use Rattle.plai_sources.specs.Items.{begun, items_of_tokens, items_of}
 use Rattle.plai_sources.specs.WellFormed.{IsGood}
-use Rattle.plai_sources.proofs.Terms.{taken, sizes, goes_on, stops, finishes-formed, good_next}
+use Rattle.plai_sources.proofs.Terms.{taken, sizes, goes_on, stops, finishes-formed, finishes-counted, good_next}
 use Rattle.plai_sources.proofs.text.read_items.Goals as goal
 
 pub loop-reading-init : goal.loop-reading-init
@@ -11,7 +11,7 @@ loop-reading-init c =
     let few = c.new-lexer.ensures.few in
     record {
       same = ap (λ r. items_of_tokens r 1 c.new-lexer.result) c.in_ok-reading.ensures ∙ ap (items_of_tokens (begun c.args.there) 1) c.new-lexer.ensures.tokens;
-      good = subst (IsGood c.args.there) (sym c.in_ok-reading.ensures) (record { items = refl; few = λ h. h });
+      good = subst (IsGood c.args.there) (sym c.in_ok-reading.ensures) (record { items = refl; count = sym (add-zero c.args.there); few = λ h. h });
       from = omega arith;
       room = omega arith;
     }
@@ -51,3 +51,6 @@ loop-reading-preserved c =
 
 pub returns-clause-well_formed : goal.returns-clause-well_formed
 returns-clause-well_formed c = finishes-formed c.args.there c.loop-reading.reading c.finish.result c.loop-reading.invariant.good c.finish.ensures
+
+pub returns-clause-counted : goal.returns-clause-counted
+returns-clause-counted c = finishes-counted c.args.there c.loop-reading.reading c.finish.result c.loop-reading.invariant.good c.finish.ensures

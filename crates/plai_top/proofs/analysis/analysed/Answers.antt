@@ -10,4 +10,4 @@ returns-in-Err-Rows-clause-outcome g c =
     stop_analysed c.args.program.now c.args.limit _ (rw c.in-Err-Rows.field-0-is at c.in-Err-Rows.ensures.causes).1 c.stopped.ensures.outcome
 
 pub unreachable-requires : goal.unreachable-requires
-unreachable-requires g c = never_over c.args.program.now (rw c.in-Err-Groups.field-0-is at c.in-Err-Groups.ensures.causes)
+unreachable-requires g c = never_over c.args.program.now (rw c.in-Err-Groups.field-0-is at c.in-Err-Groups.ensures.causes).0

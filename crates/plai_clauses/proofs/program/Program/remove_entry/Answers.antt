@@ -1,6 +1,7 @@
-use Rattle.std.proofs.Common.{◌≡◌, ◌<◌, ◌≤◌, ◌∙◌, ap, length, arith}
+use Rattle.std.proofs.Common.{◌≡◌, ◌<◌, ◌≤◌, ◌∙◌, ap, length, arith, rules}
 use Rattle.std.proofs.lemmas.List.{length-map}
 use Rattle.plai_clauses.specs.Program.{ProgramView, place_of, many_of, homes_of_entries}
+use Rattle.plai_clauses.proofs.Invariant.{fewer_entries}
 use Rattle.plai_clauses.proofs.Changes.{place_within}
 use Rattle.plai_clauses.proofs.program.Program.remove_entry.Goals as goal
 
@@ -14,3 +15,6 @@ remove-requires c =
     c.place_of-place.ensures.place ∙ ap (λ es. place_of c.args.module.now c.args.number (homes_of_entries es)) c.deref.ensures.value in
     let l : length (homes_of_entries c.self.inside.entries.items) ≡ length c.self.inside.entries.items = length-map c.self.inside.entries.items (λ e. e.module) in
     omega (arith, c.self.inside.entries.ok.0)
+
+pub invariant_of-self : goal.invariant_of-self
+invariant_of-self c = fewer_entries c.self.inside.modules.items c.self.inside.definitions.items c.self.inside.entries.items c.self.inside.checks.items c.self.invariant _ c.args.module.now c.args.number (search rules)

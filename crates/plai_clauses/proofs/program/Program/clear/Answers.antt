@@ -1,0 +1,7 @@
+use Rattle.std.proofs.Common.{arith}
+use Rattle.std.proofs.lemmas.Grind.{common_steps}
+use Rattle.plai_clauses.proofs.Invariant.{emptied_definitions}
+use Rattle.plai_clauses.proofs.program.Program.clear.Goals as goal
+
+pub invariant_of-self : goal.invariant_of-self
+invariant_of-self c = emptied_definitions c.self.inside.modules.items c.self.inside.definitions.items c.self.inside.entries.items c.self.inside.checks.items c.self.invariant _ c.args.pred.now (grind (arith, common_steps))
