@@ -43,7 +43,7 @@ returns-in-Ok-clause-early g c =
     line_keeps_early words told (record { status = 3; bytes = c.in-Refused.bytes }) (Rose (g.B.Library.faults c.args.library.now) (g.B.Library.faults c.prepare.new.library)) (as_line words told c.in-Ok.field-0 c.in-Ok.ensures.outcome c.in-Refused.bytes c.in-Refused.is)
 
 pub returns-in-Ok-clause-some : goal.returns-in-Ok-clause-some
-returns-in-Ok-clause-some g c = rw c.in-Refused.is at c.in-Ok.ensures.well_formed
+returns-in-Ok-clause-some g c = rw c.in-Refused.is at c.in-Ok.ensures.line
 
 pub returns-clause-outcome : goal.returns-clause-outcome
 returns-clause-outcome g c = stop_outcome _ (g.B.Library.files c.args.library.now) _ _ c.in-Err.ensures.outcome
