@@ -1,5 +1,5 @@
 -- From what the analysis answers to its outcomes; and no evaluation under groundness forms sets of groups.
-use Rattle.std.proofs.Common.{◌≡◌, ◌≤◌, ◌+◌, ◌⊎◌, ℕ, List, [], ◌∷◌, None, Some, Ok, Err, Option, Result, IfOk, IsSome, length, sym, ap, ◌∙◌, subst, inl, inr}
+use Rattle.std.proofs.Common.{◌≡◌, ◌≤◌, ◌⊎◌, ℕ, List, [], ◌∷◌, None, Some, Ok, Err, Option, Result, IfOk, length, sym, ap, ◌∙◌, subst, inl, inr}
 use Rattle.std.proofs.lemmas.Bool.{false≢true}
 use Rattle.plai_theory.specs.Words.{HasSome}
 use Rattle.plai_theory.specs.Domain.{Step, Goal, Do}
@@ -16,7 +16,7 @@ use Rattle.plai_eval.specs.LeastTable.{IsLeastTable}
 use Rattle.plai_eval.specs.Meaning.{Calling, Acting, as_domain, as_limits, as_program}
 use Rattle.plai_eval.specs.Stops.{IsOver}
 use Rattle.plai_rounds.specs.Causes.{AreTooMany}
-use Rattle.plai_top.specs.Outcome.{Outcome, done, stopped_at, IsAnalysed, table, stopped}
+use Rattle.plai_top.specs.Outcome.{done, stopped_at, IsAnalysed, table, stopped}
 use Rattle.plai_top.specs.Outputs.{outcome_of}
 use Rattle.plai_top.specs.declared.output.Output.{Output}
 use Rattle.plai_top.specs.declared.stop.Stop.{Stop}

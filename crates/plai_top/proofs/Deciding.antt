@@ -1,12 +1,12 @@
 -- From the phases of a call to its outcomes.
-use Rattle.std.proofs.Common.{◌≡◌, ◌≢◌, ◌≤◌, ◌⊎◌, ℕ, List, [], None, Some, Ok, Err, IfSome, IfOk, IfErr, IsErrAnd, MatchResult, map, Vec, true, false, refl, ap, ◌∙◌, sym, subst, inl, inr}
+use Rattle.std.proofs.Common.{◌≡◌, ◌≢◌, ◌⊎◌, ℕ, List, [], None, Some, Ok, Err, IfSome, IfOk, IfErr, MatchResult, map, Vec, false, refl, ap, ◌∙◌, sym, subst, inl, inr}
 use Rattle.std.specs.declared.alloc.Global.{Global}
 use Rattle.std.specs.declared.option.Option.{Option}
 use Rattle.std.specs.declared.result.Result.{Result}
 use Rattle.plai_base.specs.Texts.{TextMap}
 use Rattle.plai_clauses.specs.Program.{ProgramView}
-use Rattle.plai_modules.specs.Loading.{Refusal, loaded}
-use Rattle.plai_modules.specs.declared.text.NamedText.{NamedText}
+use Rattle.plai_modules.specs.Loading.{loaded}
+use Rattle.plai_modules.specs.declared.named_text.NamedText.{NamedText}
 use Rattle.plai_words.specs.declared.types.Settings.{Settings}
 use Rattle.plai_top.specs.Commands.{IsCommand}
 use Rattle.plai_top.specs.Files.{texts_of, AreShort, IsSomeLong, is_built_program, HasFiles}
@@ -20,7 +20,7 @@ use Rattle.plai_top.specs.declared.loading.Loading.TheVariants.{Program, Refused
 use Rattle.plai_top.specs.declared.output.Output.{Output}
 use Rattle.plai_top.specs.declared.stop.Stop.{Stop}
 use Rattle.plai_top.specs.declared.top.Prepared.{Prepared}
-use Rattle.plai_top.specs.declared.stop.Stop.TheVariants.{NoCommand, TooLarge, ReadFault, WriteFault, Memory, NotBuilt}
+use Rattle.plai_top.specs.declared.stop.Stop.TheVariants.{TooLarge, ReadFault, Memory, NotBuilt}
 use Rattle.plai_top.proofs.Outcomes.{words_are_one, not_by_words, early_is_one, program_not_early}
 
 -- ---- the words

@@ -1,17 +1,16 @@
 -- How a call ends, from what it made and what was written.
-use Rattle.std.proofs.Common.{arith, ◌≡◌, ◌≢◌, ◌≤◌, ◌⊎◌, ℕ, List, [], None, Some, IfSome, Ok, Err, length, take, refl, sym, ap, ◌∙◌, subst, inl, inr}
+use Rattle.std.proofs.Common.{arith, ◌≡◌, ◌≢◌, ◌≤◌, ℕ, List, [], None, Some, IfSome, Err, length, take, refl, sym, ap, ◌∙◌, subst, inl, inr}
 use Rattle.std.proofs.lemmas.List.{append-nil}
 use Rattle.std.specs.Io.KnownBytes.{Appends, Keeps}
 use Rattle.std.specs.declared.option.Option.{Option}
 use Rattle.plai_base.specs.Texts.{TextMap}
 use Rattle.plai_top.specs.Ending.{EndsBy, EndsByEach, EndsEarly}
-use Rattle.plai_top.specs.Outcome.{Outcome, silent, IsByWords, no_command, not_built, too_many, IsEarly, by_words, too_long, refused, unbuilt, IsOutcome, OutcomeIsOne}
+use Rattle.plai_top.specs.Outcome.{Outcome, IsByWords, no_command, not_built, too_many, IsEarly, by_words, too_long, refused, unbuilt, IsOutcome, OutcomeIsOne}
 use Rattle.plai_top.specs.Outputs.{outcome_of, KeepsEarly}
 use Rattle.plai_top.specs.Stops.{status_of}
 use Rattle.plai_top.specs.Told.{IfBothTold}
 use Rattle.plai_top.specs.declared.output.Output.{Output}
 use Rattle.plai_top.specs.declared.stop.Stop.{Stop}
-use Rattle.plai_top.specs.declared.stop.Stop.TheVariants.{ReadFault, Memory}
 
 -- a call that ended by one outcome ended by each, but for the other block
 each_by : (one : OutcomeIsOne) (words : List (List ℕ)) (files : TextMap) (script : List ℕ) (result : ℕ) (before after : Option (List ℕ)) (first : Outcome)
@@ -58,31 +57,6 @@ no_early_fault words files outcome (refused settings refusal has) five = omega a
 no_early_fault words files outcome (unbuilt settings program has fails) five = omega arith
 
 module _ (words : List (List ℕ)) (P : Type 0) where
-  -- all was written
-  pub written_early : (told : Option TextMap) (output : Output) (before after : Option (List ℕ)) (seen : List ℕ) → IfSome told (λ files. KeepsEarly words files (Ok output) P)
-      → seen ≡ output.bytes.items → Appends before after seen → IfSome told (λ files. EndsEarly words files output.status before after P)
-  written_early None output before after seen keeps same appended = tt
-  written_early (Some files) output before after seen keeps same appended = λ outcome is.
-      let one : outcome_of output ≡ outcome = keeps outcome is in (
-        inl (ap (λ o. o.status) one, subst (Appends before after) (same ∙ ap (λ o. o.bytes) one) appended),
-        λ five. absurd (no_early_fault words files outcome is (sym (ap (λ o. o.status) one) ∙ five)),
-      )
-
-  -- a write failed
-  pub unwritten_early : (told : Option TextMap) (output : Output) (before after : Option (List ℕ)) (seen : List ℕ) → IfSome told (λ files. KeepsEarly words files (Ok output) P)
-      → output.bytes.items ≢ [] → seen ≡ output.bytes.items → ((n : ℕ) × (n ≤ length seen) × Appends before after (take n seen))
-      → IfSome told (λ files. EndsEarly words files 6 before after P)
-  unwritten_early None output before after seen keeps some same took = tt
-  unwritten_early (Some files) output before after seen keeps some same (n, within, took) = λ outcome is.
-      let one : outcome_of output ≡ outcome = keeps outcome is in (
-        inr (inr (inl (
-          refl,
-          subst (λ bytes. bytes ≢ []) (ap (λ o. o.bytes) one) some,
-          (n, subst (λ bytes. Appends before after (take n bytes)) (same ∙ ap (λ o. o.bytes) one) took),
-        ))),
-        λ five. absurd (omega arith),
-      )
-
   -- the call stopped before there was an output
   pub stopped_early : (told : Option TextMap) (stop : Stop) (taken : Option (List ℕ)) → IfSome told (λ files. KeepsEarly words files (Err stop) P)
       → IfSome told (λ files. EndsEarly words files (status_of stop) taken taken P)

@@ -1,5 +1,5 @@
 -- A call has one outcome at most, but that a stop may come beside a table.
-use Rattle.std.proofs.Common.{◌≡◌, ◌≢◌, ◌≤◌, ◌<◌, ◌⊎◌, ℕ, List, [], get_or, Bool, Option, None, Some, Result, Ok, Err, true, false, length, refl, sym, ◌∙◌, ap, subst, arith, inl, inr}
+use Rattle.std.proofs.Common.{◌≡◌, ◌≢◌, ◌≤◌, ◌⊎◌, ℕ, List, Bool, Option, None, Some, Result, Ok, Err, true, false, length, refl, sym, ◌∙◌, ap, subst, arith, inl, inr}
 use Rattle.plai_base.specs.Texts.{TextMap, text_of, longest_text}
 use Rattle.plai_terms.specs.declared.plain_row.PlainRow.{PlainRow}
 use Rattle.plai_assignments.specs.Groundness.{groundness}
@@ -10,7 +10,7 @@ use Rattle.plai_words.specs.Command.{settings_of}
 use Rattle.plai_words.specs.declared.types.Settings.{Settings}
 use Rattle.plai_top.specs.Commands.{most_files, is_built_command, IsCommand}
 use Rattle.plai_top.specs.Files.{texts_of, IsSomeLong, is_built_program, HasFiles, HasProgram, HasRefusal}
-use Rattle.plai_top.specs.Outcome.{Outcome, done, stopped_at, refused_by, IsByWords, no_command, not_built, too_many, IsEarly, by_words, too_long, refused, unbuilt, IsReady, IsAnalysed, table, stopped, IsOutcome, early, scripted, analysed, IsBlock, OutcomeIsOne}
+use Rattle.plai_top.specs.Outcome.{Outcome, done, refused_by, IsByWords, no_command, not_built, too_many, IsEarly, by_words, too_long, refused, unbuilt, IsAnalysed, table, stopped, early, scripted, analysed, IsBlock, OutcomeIsOne}
 
 not_both : (b : Bool) → b ≡ true → b ≡ false → ⊥
 not_both b holds fails = let e : true ≡ false = sym holds ∙ fails in cc

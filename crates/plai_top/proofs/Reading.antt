@@ -1,10 +1,10 @@
 -- What read files and a read script say.
-use Rattle.std.proofs.Common.{All, Any, ◌≡◌, ◌≢◌, ℕ, ◌+◌, ◌<◌, ◌≤◌, ◌⊎◌, List, [], ◌∷◌, ◌++◌, None, Some, IfSome, length, map, take, get_or, refl, sym, ap, ◌∙◌, subst, arith}
+use Rattle.std.proofs.Common.{All, ◌≡◌, ◌≢◌, ℕ, ◌+◌, ◌<◌, ◌≤◌, List, [], ◌∷◌, ◌++◌, None, Some, IfSome, length, map, take, get_or, refl, sym, ap, ◌∙◌, subst, arith}
 use Rattle.std.specs.declared.option.Option.{Option}
 use Rattle.std.proofs.lemmas.List.{map-append, take_more, take_all}
 use Rattle.std.proofs.lemmas.List.Elements.{All-push, All-nil}
 use Rattle.plai_base.specs.Texts.{TextMap, text_of, longest_text}
-use Rattle.plai_modules.specs.declared.text.NamedText.{NamedText}
+use Rattle.plai_modules.specs.declared.named_text.NamedText.{NamedText}
 use Rattle.plai_top.specs.Files.{texts_of, AreShort, IsSomeLong}
 
 -- ---- the text of a file

@@ -1,5 +1,5 @@
 -- Which commands are carried out as yet: those over files under groundness, and at most 64 files.
-use Rattle.std.specs.Prelude.{◌≡◌, ◌≤◌, ◌<◌, ℕ, List, Bool, true, false, ◌&&◌, is_none, None, Some, length}
+use Rattle.std.specs.Prelude.{◌≡◌, ◌≤◌, ℕ, List, Bool, true, false, ◌&&◌, is_none, Some, length}
 use Rattle.plai_words.specs.Command.{settings_of}
 use Rattle.plai_words.specs.declared.types.DomainName.{DomainName}
 use Rattle.plai_words.specs.declared.types.DomainName.TheVariants.{Ground, Share, Depth}

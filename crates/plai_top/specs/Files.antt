@@ -1,5 +1,5 @@
 -- The texts of a command's files, and the program that they are loaded to.
-use Rattle.std.specs.Prelude.{◌≡◌, ◌≤◌, ◌<◌, ◌-◌, ℕ, List, [], Bool, true, false, All, Any, Ok, Err, map, not, ◌&&◌, length, unwrap_or, slice_get}
+use Rattle.std.specs.Prelude.{◌≡◌, ◌≤◌, ◌<◌, ◌-◌, ℕ, List, [], Bool, true, false, All, Any, Ok, Err, map, length, unwrap_or, slice_get}
 use Rattle.plai_base.specs.Texts.{TextMap, text_of, longest_text}
 use Rattle.plai_words.specs.declared.types.Settings.{Settings}
 use Rattle.plai_clauses.specs.declared.check.Check.{Check}

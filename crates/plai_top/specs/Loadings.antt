@@ -1,11 +1,10 @@
 -- What loading made of the files of a command.
 use Rattle.std.specs.Prelude.{◌≡◌, ◌≢◌, ℕ, List, [], Ok, Err, true}
 use Rattle.plai_base.specs.Texts.{TextMap}
-use Rattle.plai_clauses.specs.WellFormed.{IsWellFormed}
 use Rattle.plai_modules.specs.Loading.{Refusal, loaded}
 use Rattle.plai_words.specs.declared.types.Settings.{Settings}
 use Rattle.plai_top.specs.Files.{is_built_program, HasProgram}
-use Rattle.plai_top.specs.Outcome.{Outcome, refused_by, IsEarly}
+use Rattle.plai_top.specs.Outcome.{refused_by, IsEarly}
 use Rattle.plai_top.specs.declared.loading.Loading.{Loading}
 use Rattle.plai_top.specs.declared.loading.Loading.TheVariants.{Program, Refused}
 
@@ -21,7 +20,7 @@ IsPrepared words files rows (Program program) =
     (settings : Settings) × (settings.rows ≡ rows) × HasProgram words files settings program × (is_built_program program ≡ true)
 IsPrepared words files rows (Refused line) = IsEarly words files (record { status = 3; bytes = line.items })
 
--- a loaded program is well formed, and a line has bytes
-abbrev pub IsWellFormedLoading : Loading → Type 0
-IsWellFormedLoading (Program program) = IsWellFormed program
-IsWellFormedLoading (Refused line) = line.items ≢ []
+-- the line of a refusal has bytes
+abbrev pub HasLine : Loading → Type 0
+HasLine (Program program) = Unit {0}
+HasLine (Refused line) = line.items ≢ []

@@ -1,6 +1,5 @@
 // The analysis of a program under groundness, and its block.
 ghost use Rattle.std.specs.Prelude.{◌≡◌, All, IfOk, IfErr};
-ghost use Rattle.plai_clauses.specs.WellFormed.{IsWellFormed};
 ghost use Rattle.plai_render.specs.Order.{IsNarrow};
 ghost use Rattle.plai_top.specs.Outcome.{IsAnalysed, done, stopped_at};
 ghost use Rattle.plai_top.specs.Outputs.{outcome_of};
@@ -49,7 +48,6 @@ pub fn analysed<W: Work, L: Ledger>(
     work: &mut W,
     steps: &mut Steps<L>,
 ) -> Result<Output, Stop>
-    requires { IsWellFormed program.now }
     ensures outcome { IfOk result (λ output. IsAnalysed program.now limit (outcome_of output)) }
     ensures stop { IfErr result (λ stop. stop ≡ Stop.Memory) }
 {

@@ -4,7 +4,7 @@ ghost use Rattle.plai_base.specs.Texts.{longest_text};
 ghost use Rattle.plai_clauses.specs.Program.{ProgramView};
 ghost use Rattle.plai_modules.specs.Loading.{loaded};
 ghost use Rattle.plai_top.specs.Files.{name_at, has_no_checks, is_built_program};
-ghost use Rattle.plai_top.specs.Loadings.{IsLoading, IsWellFormedLoading};
+ghost use Rattle.plai_top.specs.Loadings.{IsLoading, HasLine};
 ghost use Rattle.plai_top.specs.Refusal.{refusal_text};
 
 use crate::refusal::refusal_line;
@@ -57,7 +57,7 @@ pub fn load_files(alloc: Global, files: &[NamedText]) -> Result<Loading, Stop>
     requires few { length files.now ≤ 64 }
     requires short { All (λ f. length f.text ≤ longest_text) files.now }
     ensures loading { IfOk result (λ loading. IsLoading (map (λ f. f.name) files.now) (map (λ f. f.text) files.now) loading) }
-    ensures well_formed { IfOk result IsWellFormedLoading }
+    ensures line { IfOk result HasLine }
     ensures stop { IfErr result (λ stop. (stop ≡ Stop.Memory) ⊎
         ((stop ≡ Stop.NotBuilt) × ((program : ProgramView) × (loaded (map (λ f. f.text) files.now) ≡ Ok program) × (is_built_program program ≡ false)))) }
 {

@@ -4,7 +4,7 @@ ghost use Rattle.std.specs.Io.KnownBytes.{Keeps, IsAtEnd};
 ghost use Rattle.plai_base.specs.Causes.{Rose};
 ghost use Rattle.plai_words.specs.Command.{settings_of, texts};
 ghost use Rattle.plai_top.specs.Ending.{IsFaultOrComes, EndsByEach, EndsByWords, EndsEarly, IsSilent, IsBeforeScript, IsBeforeWork, IsStatus};
-ghost use Rattle.plai_top.specs.Loadings.{IsPrepared, IsWellFormedLoading};
+ghost use Rattle.plai_top.specs.Loadings.{IsPrepared, HasLine};
 ghost use Rattle.plai_top.specs.Outcome.{Outcome, IsByWords, IsEarly, IsOutcome, OutcomeIsOne, silent};
 ghost use Rattle.plai_top.specs.Outputs.{outcome_of, KeepsWords, KeepsEarly, IsUnread};
 ghost use Rattle.plai_top.specs.Stops.{status_of, IsReadEnd};
@@ -50,7 +50,7 @@ fn prepare<B: Library>(alloc: Global, words: &[&str], library: &mut B) -> Result
     ensures outcome { IfSome (B.files library.old) (λ files. MatchResult result
         (λ prepared. IsPrepared (texts words.now) files prepared.rows prepared.loading)
         (λ stop. IsReadEnd stop ⊎ IsEarly (texts words.now) files (silent (status_of stop)))) }
-    ensures well_formed { IfOk result (λ prepared. IsWellFormedLoading prepared.loading) }
+    ensures line { IfOk result (λ prepared. HasLine prepared.loading) }
     ensures words { KeepsWords (texts words.now) result }
     ensures command { IsErrOf result Stop.NoCommand → settings_of (texts words.now) ≡ None }
     ensures no_write { IsErrOf result Stop.WriteFault → ⊥ }

@@ -1,4 +1,4 @@
-use Rattle.std.proofs.Common.{◌<◌, length, arith, sym, ◌∙◌, ap, subst, inr, Err}
+use Rattle.std.proofs.Common.{◌<◌, length, sym, ◌∙◌, ap, subst, inr, Err}
 use Rattle.plai_top.specs.Outcome.{no_command, not_built, too_many}
 use Rattle.plai_top.proofs.command.command_of.Goals as goal
 

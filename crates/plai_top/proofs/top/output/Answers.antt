@@ -1,4 +1,4 @@
-use Rattle.std.proofs.Common.{refl, ap, Ok, Err}
+use Rattle.std.proofs.Common.{refl, ap, Err}
 use Rattle.plai_base.specs.Causes.{Rose}
 use Rattle.plai_words.specs.Command.{texts}
 use Rattle.plai_top.proofs.Deciding.{as_program, as_line, stop_outcome, line_outcome, script_outcome, analysis_outcome, program_keeps_early, line_keeps_early, stop_keeps_early}
@@ -43,7 +43,7 @@ returns-in-Ok-clause-early g c =
     line_keeps_early words told (record { status = 3; bytes = c.in-Refused.bytes }) (Rose (g.B.Library.faults c.args.library.now) (g.B.Library.faults c.prepare.new.library)) (as_line words told c.in-Ok.field-0 c.in-Ok.ensures.outcome c.in-Refused.bytes c.in-Refused.is)
 
 pub returns-in-Ok-clause-some : goal.returns-in-Ok-clause-some
-returns-in-Ok-clause-some g c = rw c.in-Refused.is at c.in-Ok.ensures.well_formed
+returns-in-Ok-clause-some g c = rw c.in-Refused.is at c.in-Ok.ensures.line
 
 pub returns-clause-outcome : goal.returns-clause-outcome
 returns-clause-outcome g c = stop_outcome _ (g.B.Library.files c.args.library.now) _ _ c.in-Err.ensures.outcome

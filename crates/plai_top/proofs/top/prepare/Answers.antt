@@ -1,4 +1,4 @@
-use Rattle.plai_top.proofs.Deciding.{stop_keeps_words, command_keeps_words, words_decide, files_decide, loading_decides, loading_prepares}
+use Rattle.plai_top.proofs.Deciding.{words_decide, files_decide, loading_decides, loading_prepares}
 use Rattle.plai_top.proofs.top.prepare.Goals as goal
 
 pub returns-in-Ok-load_files-clause-outcome : goal.returns-in-Ok-load_files-clause-outcome
