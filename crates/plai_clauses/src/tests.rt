@@ -1,8 +1,6 @@
-ghost use Rattle.std.specs.Prelude.{◌≡◌, map};
+ghost use Rattle.std.specs.Prelude.{◌≡◌};
 ghost use Rattle.plai_terms.specs.Readable.{is_wide};
-ghost use Rattle.plai_clauses.specs.Program.{many_of};
 
-use crate::homes::Homed;
 use crate::{
     Check, CheckKind, Clause, ClauseCause, ClauseFail, Entry, Imports, Literal, Module, Program,
     Target,
@@ -200,15 +198,6 @@ fn pred(alloc: Global, module: &str, text: &str, arity: u32) -> Result<PredKey, 
     })
 }
 
-fn fact(alloc: Global, text: &str, argument: i128) -> Result<Clause, AllocError> {
-    Ok(Clause {
-        name: name(alloc, text)?,
-        head: Listed::new(vec![in alloc; Term::Int(argument)]?),
-        variables: 0,
-        body: Listed::new(Vec::new(alloc)),
-    })
-}
-
 fn entry(alloc: Global, module: &str, text: &str) -> Result<Entry, AllocError> {
     Ok(Entry {
         module: name(alloc, module)?,
@@ -237,93 +226,8 @@ fn module(alloc: Global, text: &str) -> Result<Module, AllocError> {
 }
 
 #[test]
-fn clauses_are_added_and_taken_away(rt: HostRuntime) -> Result<(), Fail> {
+fn copies_of_clauses_are_equal(rt: HostRuntime) -> Result<(), Fail> {
     let a = rt.alloc();
-    let m = name(a, "m")?;
-    let p = pred(a, "m", "p", 1)?;
-    let mut program = Program::new(a);
-    assert!(rt; program.module(&m).is_none());
-    program.add_module(a, module(a, "m")?)?;
-    for number in [1, 2, 3] {
-        let clause = fact(a, "p", number)?;
-        assert_eq!(rt; clause.head.as_slice().len(), 1);
-        program.add_clause(a, &m, clause)?;
-    }
-    assert_eq!(rt; program.items(), 3);
-    assert_eq!(rt; program.clauses_of(&p).len(), 3);
-    program.remove_clause(a, &p, 2)?;
-    let copy = program.copy(a)?;
-    assert_eq!(rt; copy.clauses_of(&p).len(), 2);
-    for (clause, number) in copy.clauses_of(&p).iter().zip([1, 3]) {
-        assert_eq!(rt; clause.head.as_slice(), [Term::Int(number)].as_slice());
-    }
-    program.clear(&p);
-    assert_eq!(rt; program.items(), 0);
-    assert!(rt; program.module(&m).is_some());
-    Ok(())
-}
-
-#[test]
-fn entries_and_checks_are_by_module(rt: HostRuntime) -> Result<(), Fail> {
-    let a = rt.alloc();
-    let mut program = Program::new(a);
-    for (home, text) in [("n", "a"), ("m", "b"), ("n", "c"), ("m", "d"), ("l", "e")] {
-        program.add_entry(a, entry(a, home, text)?)?;
-        program.add_check(a, check(a, home, text)?)?;
-    }
-    for (found, text) in program.entries().iter().zip(["e", "b", "d", "a", "c"]) {
-        assert_eq!(rt; found.pred.name.as_slice(), text.as_bytes());
-    }
-    for (found, text) in program.checks().iter().zip(["e", "b", "d", "a", "c"]) {
-        assert_eq!(rt; found.pred.name.as_slice(), text.as_bytes());
-    }
-    assert_eq!(rt; program.items(), 10);
-    Ok(())
-}
-
-// How many of the items are the module's.
-fn many_of<T: Homed>(items: &[T], name: &Name) -> usize
-    ensures { result ≡ many_of name.now (map T.home items.now) }
-{
-    let mut many: usize = 0;
-    for item in items {
-        if *item.home() == *name {
-            many += 1;
-        }
-    }
-    many
-}
-
-#[test]
-fn entries_and_checks_are_taken_away(rt: HostRuntime) -> Result<(), Fail> {
-    let a = rt.alloc();
-    let mut program = Program::new(a);
-    for (home, text) in [("n", "a"), ("m", "b"), ("n", "c"), ("m", "d"), ("l", "e")] {
-        program.add_entry(a, entry(a, home, text)?)?;
-        program.add_check(a, check(a, home, text)?)?;
-    }
-    let m = name(a, "m")?;
-    assert_eq!(rt; many_of(program.entries(), &m), 2);
-    program.remove_entry(&m, 2);
-    let n = name(a, "n")?;
-    assert_eq!(rt; many_of(program.checks(), &n), 2);
-    program.remove_check(&n, 1);
-    assert_eq!(rt; program.items(), 8);
-    for (found, text) in program.entries().iter().zip(["e", "b", "a", "c"]) {
-        assert_eq!(rt; found.pred.name.as_slice(), text.as_bytes());
-    }
-    for (found, text) in program.checks().iter().zip(["e", "b", "d", "c"]) {
-        assert_eq!(rt; found.pred.name.as_slice(), text.as_bytes());
-    }
-    Ok(())
-}
-
-#[test]
-fn copies_are_equal(rt: HostRuntime) -> Result<(), Fail> {
-    let a = rt.alloc();
-    let m = name(a, "m")?;
-    let mut program = Program::new(a);
-    program.add_module(a, module(a, "m")?)?;
     let literal = Literal {
         name: name(a, "q")?,
         args: Listed::new(vec![in a; Term::Var(0), atom(a, "b")?]?),
@@ -334,11 +238,9 @@ fn copies_are_equal(rt: HostRuntime) -> Result<(), Fail> {
         args: Listed::new(Vec::new(a)),
         target: Target::Builtin,
     };
-    let head = vec![in a; Term::Var(0)]?;
-    assert_eq!(rt; head.len(), 1);
     let clause = Clause {
         name: name(a, "p")?,
-        head: Listed::new(head),
+        head: Listed::new(vec![in a; Term::Var(0)]?),
         variables: 1,
         body: Listed::new(vec![in a; literal.copy(a)?, builtin.copy(a)?]?),
     };
@@ -350,9 +252,24 @@ fn copies_are_equal(rt: HostRuntime) -> Result<(), Fail> {
         format!(in a; "{:?}", clause.copy(a)?)?,
         format!(in a; "{clause:?}")?
     );
-    program.add_clause(a, &m, clause)?;
-    program.add_entry(a, entry(a, "m", "p")?.copy(a)?)?;
-    program.add_check(a, check(a, "m", "p")?.copy(a)?)?;
+    Ok(())
+}
+
+#[test]
+fn copies_of_items_are_equal(rt: HostRuntime) -> Result<(), Fail> {
+    let a = rt.alloc();
+    let first = entry(a, "m", "p")?;
+    assert_eq!(rt;
+        format!(in a; "{:?}", first.copy(a)?)?,
+        format!(in a; "{first:?}")?
+    );
+    let first = check(a, "m", "p")?;
+    assert_eq!(rt;
+        format!(in a; "{:?}", first.copy(a)?)?,
+        format!(in a; "{first:?}")?
+    );
+    let mut program = Program::new(a);
+    program.add_module(a, module(a, "m")?)?;
     assert_eq!(rt;
         format!(in a; "{:?}", program.copy(a)?)?,
         format!(in a; "{program:?}")?
