@@ -1,5 +1,6 @@
-ghost use Rattle.std.specs.Prelude.{◌≡◌};
+ghost use Rattle.std.specs.Prelude.{◌≡◌, IfOk};
 ghost use Rattle.plai_terms.specs.Readable.{is_wide};
+ghost use Rattle.plai_clauses.specs.WellFormed.{IsWellFormedEntry, IsWellFormedCheck};
 
 use crate::{
     Check, CheckKind, Clause, ClauseCause, ClauseFail, Entry, Imports, Literal, Module, Program,
@@ -190,7 +191,9 @@ fn slots_are_counted_with_the_widest_literal(rt: HostRuntime) -> Result<(), Fail
     Ok(())
 }
 
-fn pred(alloc: Global, module: &str, text: &str, arity: u32) -> Result<PredKey, AllocError> {
+fn pred(alloc: Global, module: &str, text: &str, arity: u32) -> Result<PredKey, AllocError>
+    ensures { IfOk result (λ pred. pred.arity ≡ arity) }
+{
     Ok(PredKey {
         module: name(alloc, module)?,
         name: name(alloc, text)?,
@@ -198,7 +201,9 @@ fn pred(alloc: Global, module: &str, text: &str, arity: u32) -> Result<PredKey, 
     })
 }
 
-fn entry(alloc: Global, module: &str, text: &str) -> Result<Entry, AllocError> {
+fn entry(alloc: Global, module: &str, text: &str) -> Result<Entry, AllocError>
+    ensures { IfOk result IsWellFormedEntry }
+{
     Ok(Entry {
         module: name(alloc, module)?,
         pred: pred(alloc, module, text, 1)?,
@@ -206,7 +211,9 @@ fn entry(alloc: Global, module: &str, text: &str) -> Result<Entry, AllocError> {
     })
 }
 
-fn check(alloc: Global, module: &str, text: &str) -> Result<Check, AllocError> {
+fn check(alloc: Global, module: &str, text: &str) -> Result<Check, AllocError>
+    ensures { IfOk result IsWellFormedCheck }
+{
     Ok(Check {
         module: name(alloc, module)?,
         kind: CheckKind::Success,
@@ -289,5 +296,86 @@ fn names_are_resolved(rt: HostRuntime) -> Result<(), Fail> {
     }
     assert!(rt; program.resolve(&m, &name(a, "is")?, 2).is_none());
     assert!(rt; program.resolve(&name(a, "n")?, &name(a, "p")?, 1).is_none());
+    Ok(())
+}
+
+// Adds the fact `text(number)` to the module, which is there.
+fn add_fact<R: AllocGlobal + Abort>(
+    rt: &R,
+    program: &mut Program,
+    home: &Name,
+    text: &str,
+    number: i128,
+) -> Result<(), Fail> {
+    let alloc = rt.alloc();
+    let term = term(alloc, text, vec![in alloc; Term::Int(number)]?)?;
+    let read = ReadTerm { term, variables: 0 };
+    assert!(rt; read.term.has_variables_below(0) && !is_wide(&read.term));
+    assert!(rt; program.module(home).is_some());
+    match Clause::from_term(alloc, home, &Imports::new(Vec::new(alloc)), &read) {
+        Ok(clause) => program.add_clause(alloc, home, clause)?,
+        Err(_) => assert!(rt; false),
+    }
+    Ok(())
+}
+
+// Adds an entry and a check of the predicate `text/1` to the module, which is there.
+fn add_items<R: AllocGlobal + Abort>(
+    rt: &R,
+    program: &mut Program,
+    home: &str,
+    text: &str,
+) -> Result<(), Fail> {
+    let alloc = rt.alloc();
+    let entry = entry(alloc, home, text)?;
+    assert!(rt; program.module(&entry.module).is_some());
+    program.add_entry(alloc, entry)?;
+    let check = check(alloc, home, text)?;
+    assert!(rt; program.module(&check.module).is_some());
+    program.add_check(alloc, check)?;
+    Ok(())
+}
+
+#[test]
+fn clauses_are_added_and_taken_away(rt: HostRuntime) -> Result<(), Fail> {
+    let a = rt.alloc();
+    let m = name(a, "m")?;
+    let p = pred(a, "m", "p", 1)?;
+    let mut program = Program::new(a);
+    assert!(rt; program.module(&m).is_none());
+    program.add_module(a, module(a, "m")?)?;
+    for number in [1, 2, 3] {
+        add_fact(&rt, &mut program, &m, "p", number)?;
+    }
+    assert_eq!(rt; program.items(), 3);
+    assert_eq!(rt; program.clauses_of(&p).len(), 3);
+    program.remove_clause(a, &p, 2)?;
+    for (clause, number) in program.clauses_of(&p).iter().zip([1, 3]) {
+        assert_eq!(rt; clause.head.as_slice(), [Term::Int(number)].as_slice());
+    }
+    program.clear(&p);
+    assert_eq!(rt; program.items(), 0);
+    Ok(())
+}
+
+#[test]
+fn entries_and_checks_are_by_module(rt: HostRuntime) -> Result<(), Fail> {
+    let a = rt.alloc();
+    let mut program = Program::new(a);
+    for home in ["n", "m", "l"] {
+        let home = module(a, home)?;
+        assert!(rt; program.module(&home.name).is_none());
+        program.add_module(a, home)?;
+    }
+    for (home, text) in [("n", "a"), ("m", "b"), ("n", "c"), ("m", "d"), ("l", "e")] {
+        add_items(&rt, &mut program, home, text)?;
+    }
+    for (found, text) in program.entries().iter().zip(["e", "b", "d", "a", "c"]) {
+        assert_eq!(rt; found.pred.name.as_slice(), text.as_bytes());
+    }
+    for (found, text) in program.checks().iter().zip(["e", "b", "d", "a", "c"]) {
+        assert_eq!(rt; found.pred.name.as_slice(), text.as_bytes());
+    }
+    assert_eq!(rt; program.items(), 10);
     Ok(())
 }
