@@ -1,5 +1,6 @@
 #!/usr/bin/env bash
-# Runs plai on each example and compares what it prints with the table beside it.
+# Runs plai on each example and compares what it prints with the table beside it. The gate does the same with the copies in
+# crates/plai_examples/data, which are compared here with these.
 set -u
 cd "$(dirname "${BASH_SOURCE[0]}")" || exit 1
 failed=0
@@ -16,6 +17,11 @@ check() {
 check app.table app.pl
 check deriv.table deriv.pl
 check len.table len.pl
-check pairs.table pairs.pl
 check sort.table sort.pl lists.pl
+for file in *.pl *.table; do
+  if ! cmp -s "$file" "../crates/plai_examples/data/$file"; then
+    echo "another copy: $file"
+    failed=1
+  fi
+done
 exit $failed

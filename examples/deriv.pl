@@ -1,12 +1,12 @@
+% Symbolic derivation of an expression by a variable of it.
 :- module(deriv, [d/3]).
-
-:- op(200, xfy, ^).
-
 :- entry d(E, X, D) : (ground(E), ground(X)).
+:- entry d(E, X, D) : ground(X).
 
-d(X, X, 1).
+d(U+V, X, DU+DV) :- d(U, X, DU), d(V, X, DV).
+d(U-V, X, DU-DV) :- d(U, X, DU), d(V, X, DV).
+d(U*V, X, DU*V+U*DV) :- d(U, X, DU), d(V, X, DV).
+d(U^s(N), X, DU*s(N)*U^N) :- d(U, X, DU).
+d(-U, X, -DU) :- d(U, X, DU).
+d(x(X), X, s(0)).
 d(c(_), _, 0).
-d(E + F, X, DE + DF) :- d(E, X, DE), d(F, X, DF).
-d(E - F, X, DE - DF) :- d(E, X, DE), d(F, X, DF).
-d(E * F, X, E * DF + F * DE) :- d(E, X, DE), d(F, X, DF).
-d(E ^ N, X, N * E ^ (N - 1) * DE) :- d(E, X, DE).

@@ -1,7 +1,6 @@
+% The length of a list as a Peano number: it is ground, whatever the items are.
 :- module(len, [len/2]).
-
 :- entry len(X, Y).
-:- entry len(X, Y) : ground(X).
 
 len([], 0).
 len([_|T], s(N)) :- len(T, N).

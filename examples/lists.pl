@@ -1,3 +1,4 @@
+% The module that the quicksort imports from.
 :- module(lists, [app/3]).
 
 app([], L, L).
