@@ -1,5 +1,6 @@
-ghost use Rattle.std.specs.Prelude.{◌≡◌, ◌+◌, ◌≤◌, ◌↔◌, true, All, IsTrue, IfOk, length};
+ghost use Rattle.std.specs.Prelude.{◌≡◌, ◌+◌, ◌++◌, ◌≤◌, ◌↔◌, true, All, IsTrue, IfOk, OnOk, OnErr, length};
 ghost use Rattle.std.specs.Option.{option_map};
+ghost use Rattle.plai_terms.specs.Pattern.{pattern_text};
 ghost use Rattle.plai_domain.specs.Instances.{speaks_within, all_below, acts_within};
 ghost use Rattle.plai_assignments.specs.Groundness.{arity_of, groundness};
 ghost use Rattle.plai_pos.specs.Values.{value_of, state_of};
@@ -8,7 +9,7 @@ use crate::value::{State, Value};
 use crate::{enter, literal, properties, refine, sets};
 use plai_base::Mask;
 use plai_domain::Action;
-use plai_terms::{Abs, Listed, Prop, Term};
+use plai_terms::{Abs, Listed, Prop, Term, print_abs};
 use std::alloc::{AllocError, Global};
 
 /// The domain of groundness (Marriott and Sondergaard 1993). Each call gives what the plain domain gives.
@@ -187,5 +188,19 @@ impl Ground {
     {
         let masks: Vec<Mask> = Vec::from_slice(alloc, a.masks.as_slice())?;
         Ok(Abs::Pos(a.arity, Listed::new(masks)))
+    }
+
+    /// Appends the text of the value. After want of memory `out` is as before.
+    pub(crate) fn print(
+        &self,
+        alloc: Global,
+        a: &Value,
+        out: &mut Vec<u8>,
+    ) -> Result<(), AllocError>
+        ensures ok { OnOk result (out.new.items ≡ out.old.items ++ pattern_text (value_of a.now)) }
+        ensures err { OnErr result (out.new.items ≡ out.old.items) }
+    {
+        let pattern = self.to_abs(alloc, a)?;
+        print_abs(alloc, &pattern, out)
     }
 }
