@@ -1,0 +1,9 @@
+//! What builtin predicates compute of terms without unification: the values of arithmetic expressions, and the standard
+//! order of terms (ISO/IEC 13211-1:1995, 7.2, 8.4, 8.7 and 9).
+#![tactic(auto)]
+
+mod comparison;
+mod functor;
+
+pub use comparison::Comparison;
+pub use functor::{Binary, Unary};
