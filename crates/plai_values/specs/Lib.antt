@@ -1,3 +1,4 @@
 pub mod Functors
 pub mod Values
 pub mod TermOrder
+pub mod Small

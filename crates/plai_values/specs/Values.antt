@@ -35,10 +35,13 @@ modulo x y = x -ℤ floor_div x y *ℤ y
 abbrev pub exact_quotient : ℤ → ℤ → Option ℤ
 exact_quotient x y = if int_eq (int_rem x y) (pos 0) then divided int_div x y else None
 
--- by 0 to 127 bits
+-- a number of bits to shift by, 0 to 127
+abbrev pub shift_count : ℤ → Option ℕ
+shift_count (pos k) = if nat_lt k 128 then Some k else None
+shift_count (negsuc _) = None
+
 abbrev pub shifted : (ℤ → ℕ → ℤ) → ℤ → ℤ → Option ℤ
-shifted f x (pos k) = if nat_lt k 128 then in_range (f x k) else None
-shifted f x (negsuc _) = None
+shifted f x y = option_and_then (λ k. in_range (f x k)) (shift_count y)
 
 -- the product with a power of two
 abbrev pub times_power_of_two : ℤ → ℕ → ℤ

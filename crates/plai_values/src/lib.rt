@@ -4,6 +4,7 @@
 
 mod comparison;
 mod functor;
+mod integer;
 
 pub use comparison::Comparison;
 pub use functor::{Binary, Unary};
