@@ -1,8 +1,8 @@
 -- What is read of a division's answer in the code.
-use Rattle.std.proofs.Common.{◌≡◌, ◌≢◌, ◌<◌, ◌≤◌, ◌^◌, ℕ, zero, suc, ℤ, pos, negsuc, ◌+ℤ◌, int_div, int_rem, int_lt, Bool, true, false, if◌then◌else◌, Option, Some, None, arith, rules, refl, ap, sym, ◌∙◌, subst, FitsSigned, to_z, of_z}
+use Rattle.std.proofs.Common.{◌≡◌, ◌≢◌, ℤ, pos, ◌+ℤ◌, int_rem, int_lt, Bool, true, false, if◌then◌else◌, Option, Some, None, rules, refl, ap, sym, ◌∙◌, subst, FitsSigned, to_z, of_z}
 use Rattle.std.specs.Ordering.{int_eq}
 use Rattle.std.specs.Int.{w128}
-use Rattle.std.proofs.lemmas.Int.{ints, to_z-of_z}
+use Rattle.std.proofs.lemmas.Int.{to_z-of_z}
 use mathlib.Core.Bool.{beq}
 use Rattle.plai_values.specs.Values.{in_range, divided, modulo}
 use Rattle.plai_values.proofs.Modulo as m

@@ -1,3 +1,4 @@
 pub mod Modulo
 pub mod Divided
 pub mod Ranges
+pub mod Powers

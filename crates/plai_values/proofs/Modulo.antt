@@ -1,12 +1,12 @@
 -- What the quotient rounded down leaves, by what the quotient rounded towards zero leaves.
-use Rattle.std.proofs.Common.{◌≡◌, ◌≢◌, nat_lt, ◌<◌, ◌≤◌, ◌+◌, ◌-◌, ◌*◌, ◌/◌, ◌%◌, ℕ, zero, suc, ℤ, pos, negsuc, ◌+ℤ◌, ◌-ℤ◌, ◌*ℤ◌, neg_ℤ, int_div, int_rem, int_lt, Bool, true, false, arith, refl, ap, sym, ◌∙◌, subst}
+use Rattle.std.proofs.Common.{◌≡◌, ◌≢◌, nat_lt, ◌<◌, ◌-◌, ◌%◌, ℕ, zero, suc, ℤ, pos, negsuc, ◌+ℤ◌, neg_ℤ, int_rem, int_lt, Bool, true, false, arith, refl, ap, sym, ◌∙◌, subst}
 use Rattle.std.specs.Ordering.{int_eq}
 use Rattle.std.proofs.lemmas.Bool.{ltb-true, ltb-false}
 use Rattle.std.proofs.lemmas.Bool.Decides.{nat_tests}
 use Rattle.std.proofs.lemmas.Int.{ints}
 use Rattle.std.proofs.Math.Nat.{suc-mod, mod_self, mod-lt, mod-eq_of_lt}
 use mathlib.Core.Bool.{beq}
-use Rattle.plai_values.specs.Values.{modulo, floor_div}
+use Rattle.plai_values.specs.Values.{modulo}
 
 -- what is left of a, and of one more, by a divisor of one more than n
 data Next (n q r : ℕ) : Type 0 where

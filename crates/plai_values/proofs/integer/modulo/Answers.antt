@@ -1,5 +1,4 @@
-use Rattle.std.proofs.Common.{rules, ◌≡◌, ◌≢◌, ◌<◌, ◌≤◌, ℤ, pos, ◌+ℤ◌, int_div, int_rem, int_lt, ℕ, Bool, true, false, FitsSigned, to_z, of_z}
-use Rattle.std.specs.Int.{w128}
+use Rattle.std.proofs.Common.{rules}
 use Rattle.plai_values.proofs.integer.modulo.Goals as goal
 use Rattle.plai_values.proofs.Divided as d
 
