@@ -2,9 +2,11 @@
 //! order of terms (ISO/IEC 13211-1:1995, 7.2, 8.4, 8.7 and 9).
 #![tactic(auto)]
 
+mod arithmetic;
 mod comparison;
 mod functor;
 mod integer;
 
+pub use arithmetic::value;
 pub use comparison::Comparison;
 pub use functor::{Binary, Unary};
