@@ -4,3 +4,6 @@ pub mod Ranges
 pub mod Powers
 pub mod Stacks
 pub mod Evaluation
+pub mod TermOrders
+pub mod Subterms
+pub mod OrderLaws

@@ -6,7 +6,11 @@ mod arithmetic;
 mod comparison;
 mod functor;
 mod integer;
+mod laws;
+mod order;
 
 pub use arithmetic::value;
 pub use comparison::Comparison;
 pub use functor::{Binary, Unary};
+pub use laws::term_order_is_total;
+pub use order::{compare, same_term};
