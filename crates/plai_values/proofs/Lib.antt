@@ -7,3 +7,4 @@ pub mod Evaluation
 pub mod TermOrders
 pub mod Subterms
 pub mod OrderLaws
+pub mod GroundTerms

@@ -14,7 +14,7 @@ opened_at [] i x h e = absurd (omega arith)
 opened_at (y ∷ ys) zero x h e = ap (λ z. z.now ∷ referred ys) (sym e)
 opened_at (y ∷ ys) (suc i) x h e = opened_at ys i x (omega arith) e
 
-opened : (xs : List (Bor Term)) (i : ℕ) (x : Bor Term) → i < length xs → x ≡ get_or xs i x → drop i (referred xs) ≡ x.now ∷ drop (i + 1) (referred xs)
+pub opened : (xs : List (Bor Term)) (i : ℕ) (x : Bor Term) → i < length xs → x ≡ get_or xs i x → drop i (referred xs) ≡ x.now ∷ drop (i + 1) (referred xs)
 opened xs i x h e = opened_at xs i x h e ∙ ap (λ k. x.now ∷ drop k (referred xs)) (sym (add-one i))
 
 tied : (o : Ordering) → is_ne o ≡ false → o ≡ Equal

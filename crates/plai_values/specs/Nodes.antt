@@ -1,5 +1,5 @@
 -- The order of terms without their arguments, by which the standard order compares two terms subterm by subterm, in preorder.
-use Rattle.std.specs.Prelude.{length}
+use Rattle.std.specs.Prelude.{Bool, true, false, length}
 use Rattle.std.specs.declared.cmp.Ordering.{Ordering}
 use Rattle.std.specs.declared.cmp.Ordering.TheVariants.{Less, Greater}
 use Rattle.std.specs.Ordering.{ordering_then, nat_cmp, int_cmp}
@@ -22,3 +22,11 @@ node_level (Term-F.Compound a xs) (Term-F.Compound b ys) = ordering_then (nat_cm
 -- by kind, a variable's number, an integer's value, the number of arguments and the name
 abbrev pub node_order : Term → Term → Ordering
 node_order t u = node_level (out-Term t) (out-Term u)
+
+abbrev pub no_variable_in : Term-F Term → Bool
+no_variable_in (Term-F.Var v) = false
+no_variable_in _ = true
+
+-- the term itself is no variable
+abbrev pub is_no_variable : Term → Bool
+is_no_variable t = no_variable_in (out-Term t)

@@ -5,6 +5,7 @@
 mod arithmetic;
 mod comparison;
 mod functor;
+mod groundness;
 mod integer;
 mod laws;
 mod order;
@@ -12,5 +13,6 @@ mod order;
 pub use arithmetic::value;
 pub use comparison::Comparison;
 pub use functor::{Binary, Unary};
+pub use groundness::is_ground_term;
 pub use laws::term_order_is_total;
 pub use order::{compare, same_term};
