@@ -24,3 +24,4 @@ pub mod TermTexts
 pub mod Terms
 pub mod Total
 pub mod Under
+pub mod Preorder

@@ -13,3 +13,4 @@ pub mod Unifiers
 pub mod Progress
 pub mod Rows
 pub mod Readable
+pub mod Preorder

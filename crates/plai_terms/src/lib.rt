@@ -26,6 +26,7 @@ mod solve;
 mod subst;
 mod term;
 mod unifiers;
+mod walk;
 
 pub use abs::Abs;
 pub use atom::{print_atom, print_name, print_quoted};

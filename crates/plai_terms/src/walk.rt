@@ -1,0 +1,43 @@
+// Walks over terms with a stack on the heap, for terms of any depth.
+ghost use Rattle.std.specs.Prelude.{◌≡◌, ◌++◌, IfOk, reverse};
+ghost use Rattle.plai_terms.specs.Preorder.{arguments_of, preorder, referred};
+
+use crate::term::Term;
+use std::alloc::{AllocError, Global};
+
+// Terms that wait, the next one last, get others behind them, so that the first of these is next.
+fn put_all<'a>(terms: &'a [Term], waiting: &mut Vec<&'a Term>) -> Result<(), AllocError>
+    ensures { IfOk result (λ _. referred waiting.new.items ≡ referred waiting.old.items ++ reverse terms.entry.now) }
+{
+    let mut left = terms;
+    while let Some((last, before)) = left.split_last() {
+        waiting.push(last)?;
+        left = before;
+    }
+    Ok(())
+}
+
+impl Term {
+    /// The arguments of a compound, and of a variable, an integer or an atom none.
+    pub fn arguments(&self) -> &[Term]
+        ensures { result.now ≡ arguments_of self.now }
+    {
+        match self {
+            Term::Compound(_, args) => args.as_slice(),
+            _ => &[],
+        }
+    }
+
+    /// The subterms in preorder: the term, and then the subterms of its arguments, from the first.
+    pub fn nodes(&self, alloc: Global) -> Result<Vec<&Term>, AllocError>
+        ensures { IfOk result (λ nodes. referred nodes.items ≡ preorder self.entry.now) }
+    {
+        let mut nodes = Vec::new(alloc);
+        let mut waiting = vec![in alloc; self]?;
+        while let Some(term) = waiting.pop() {
+            nodes.push(term)?;
+            put_all(term.arguments(), &mut waiting)?;
+        }
+        Ok(nodes)
+    }
+}
