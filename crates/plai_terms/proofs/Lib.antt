@@ -9,6 +9,7 @@ pub mod Outcomes
 pub mod Pairs
 pub mod PatternTexts
 pub mod Reading
+pub mod Renewed
 pub mod RowOrders
 pub mod Same
 pub mod SameNames

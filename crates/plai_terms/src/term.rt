@@ -3,6 +3,7 @@ ghost use Rattle.plai_terms.specs.Term.{depth_of, is_ground, occurs, has_variabl
 
 use crate::name::Name;
 use crate::non_empty::NonEmpty;
+use crate::rebuild::{renewed, take_last};
 use std::alloc::{AllocError, Global};
 
 /// The arguments of a compound: at least one.
@@ -24,16 +25,16 @@ pub enum Term {
 
 impl Term {
     /// An equal term.
-    #[cycle(copy)]
     pub fn copy(&self, alloc: Global) -> Result<Term, AllocError>
         ensures { IfOk result (λ t. t ≡ self.now) }
     {
-        match self {
-            Term::Var(number) => Ok(Term::Var(*number)),
-            Term::Int(value) => Ok(Term::Int(*value)),
-            Term::Atom(name) => Ok(Term::Atom(name.copy(alloc)?)),
-            Term::Compound(name, args) => Ok(Term::Compound(name.copy(alloc)?, args.copy(alloc)?)),
+        let mut nodes = self.nodes(alloc)?;
+        let mut done = Vec::new(alloc);
+        while let Some(node) = nodes.pop() {
+            let term = renewed(alloc, node, &mut done)?;
+            done.push(term)?;
         }
+        Ok(take_last(&mut done))
     }
 }
 
@@ -112,7 +113,6 @@ impl Term {
 
 impl NonEmpty<Term> {
     /// Equal arguments.
-    #[cycle(copy)]
     pub fn copy(&self, alloc: Global) -> Result<Args, AllocError>
         ensures { IfOk result (λ args. args ≡ self.now) }
     {
