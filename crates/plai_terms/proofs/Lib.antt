@@ -2,6 +2,7 @@ pub mod AtomTexts
 pub mod General
 pub mod GroupOrder
 pub mod Joined
+pub mod LetGo
 pub mod Loop
 pub mod MoveAt
 pub mod MoveLaws

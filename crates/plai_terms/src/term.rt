@@ -1,17 +1,19 @@
-ghost use Rattle.std.specs.Prelude.{◌≡◌, ◌-◌, ◌^◌, min, IfOk};
+ghost use Rattle.std.specs.Prelude.{◌≡◌, ◌-◌, ◌^◌, min, IfOk, List, ◌∷◌};
+ghost use Rattle.plai_terms.specs.declared.term.Term.{Term, Compound};
 ghost use Rattle.plai_terms.specs.Term.{depth_of, is_ground, occurs, has_variables_below};
 
 use crate::name::Name;
 use crate::non_empty::NonEmpty;
 use crate::rebuild::{renewed, take_last};
 use std::alloc::{AllocError, Global};
+use std::mem;
 
 /// The arguments of a compound: at least one.
 pub type Args = NonEmpty<Term>;
 
 /// A term (ISO/IEC 13211-1:1995, 6.1.2 and 7.1). Contracts see it as data, with a name as its bytes and
 /// arguments as a list.
-#[derive(Debug, PartialEq, Eq, Hash, Drop)]
+#[derive(Debug, PartialEq, Eq, Hash)]
 pub enum Term {
     /// A variable, by its number from 0.
     Var(u32),
@@ -21,6 +23,40 @@ pub enum Term {
     Atom(Name),
     /// A compound: its name and its arguments.
     Compound(Name, Args),
+}
+
+// The first argument of a compound, whose place other terms take, and the arguments with these.
+fn turn(name: Name, args: Args, others: Args) -> (Term, Args)
+    ensures { (first : Term) × (rest : List Term) × (args ≡ first ∷ rest) × (result ≡ (first, Compound name others ∷ rest)) }
+{
+    let mut items = args.into_vec();
+    let first = mem::replace(&mut items[0], Term::Compound(name, others));
+    (first, NonEmpty::new(items))
+}
+
+// A loop, so that a term of any depth runs out of no stack, and without memory of its own. Beside the term that is
+// let go some others wait. A compound that is met meanwhile gives the place of its first argument to a compound of
+// those, which so comes up last, when no others wait: each compound is met twice at most.
+impl Drop for Term {
+    fn drop(mut self) {
+        let mut waiting: Option<Args> = None;
+        loop {
+            match self {
+                Term::Var(_) | Term::Int(_) | Term::Atom(_) => match waiting {
+                    None => return,
+                    Some(args) => (self, waiting) = args.split_last(),
+                },
+                Term::Compound(name, args) => match waiting {
+                    None => (self, waiting) = args.split_last(),
+                    Some(others) => {
+                        let (first, rest) = turn(name, args, others);
+                        self = first;
+                        waiting = Some(rest);
+                    }
+                },
+            }
+        }
+    }
 }
 
 impl Term {
