@@ -1,7 +1,9 @@
 pub mod AtomTexts
+pub mod Contains
 pub mod General
 pub mod GroupOrder
 pub mod Joined
+pub mod LetGo
 pub mod Loop
 pub mod MoveAt
 pub mod MoveLaws
@@ -9,6 +11,8 @@ pub mod Outcomes
 pub mod Pairs
 pub mod PatternTexts
 pub mod Reading
+pub mod Renewed
+pub mod Pieces
 pub mod RowOrders
 pub mod Same
 pub mod SameNames

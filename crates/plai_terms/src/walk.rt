@@ -1,5 +1,6 @@
 // Walks over terms with a stack on the heap, for terms of any depth.
 ghost use Rattle.std.specs.Prelude.{◌≡◌, ◌++◌, IfOk, reverse};
+ghost use Rattle.plai_terms.specs.Term.{is_variable, occurs};
 ghost use Rattle.plai_terms.specs.Preorder.{arguments_of, preorder, referred};
 
 use crate::term::Term;
@@ -15,6 +16,28 @@ fn put_all<'a>(terms: &'a [Term], waiting: &mut Vec<&'a Term>) -> Result<(), All
         left = before;
     }
     Ok(())
+}
+
+fn is_variable(term: &Term, variable: u32) -> bool
+    ensures { result ≡ is_variable variable term.now }
+{
+    match term {
+        Term::Var(number) => variable == *number,
+        _ => false,
+    }
+}
+
+// Whether the variable occurs in a term of any depth.
+pub(crate) fn contains(alloc: Global, term: &Term, variable: u32) -> Result<bool, AllocError>
+    ensures { IfOk result (λ found. found ≡ occurs variable term.now) }
+{
+    let nodes = term.nodes(alloc)?;
+    for node in &nodes {
+        if is_variable(node, variable) {
+            return Ok(true);
+        }
+    }
+    Ok(false)
 }
 
 impl Term {
