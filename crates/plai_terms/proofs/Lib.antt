@@ -2,6 +2,7 @@ pub mod AtomTexts
 pub mod General
 pub mod GroupOrder
 pub mod Joined
+pub mod LetGo
 pub mod Loop
 pub mod MoveAt
 pub mod MoveLaws
@@ -9,6 +10,7 @@ pub mod Outcomes
 pub mod Pairs
 pub mod PatternTexts
 pub mod Reading
+pub mod Renewed
 pub mod RowOrders
 pub mod Same
 pub mod SameNames

@@ -13,6 +13,16 @@ arguments _ = []
 unfoldable pub arguments_of : Term → List Term
 arguments_of t = arguments (out-Term t)
 
+abbrev pub with_those : Term-F Term → List Term → Term
+with_those (Term-F.Var v) _ = Var v
+with_those (Term-F.Int n) _ = Int n
+with_those (Term-F.Atom a) _ = Atom a
+with_those (Term-F.Compound name _) args = Compound name args
+
+-- a compound with other arguments; a variable, integer or atom as it is
+unfoldable pub with_arguments : Term → List Term → Term
+with_arguments t = with_those (out-Term t)
+
 -- one level: a term and its subterms, each argument with its own
 abbrev pub preorder_step : Term-F (Term × List Term) → Term × List Term
 preorder_step (Term-F.Var v) = (Var v, Var v ∷ [])

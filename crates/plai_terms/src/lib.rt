@@ -19,6 +19,7 @@ mod pred_key;
 mod print;
 mod prop;
 mod read_term;
+mod rebuild;
 mod row_name;
 mod shape;
 mod skeleton;

@@ -1,9 +1,10 @@
-ghost use Rattle.std.specs.Prelude.{◌≡◌, [], ◌∷◌, IfOk, map, nat_eq};
+ghost use Rattle.std.specs.Prelude.{◌≡◌, ◌≤◌, [], ◌∷◌, IfOk, length, map, reverse, take, drop, nat_eq};
 ghost use Rattle.std.specs.List.{IsDistinct};
+ghost use Rattle.plai_terms.specs.Preorder.{arguments_of};
 ghost use Rattle.plai_terms.specs.Subst.{bound_to, apply_of};
 
-use crate::non_empty::NonEmpty;
-use crate::term::{Args, Term};
+use crate::rebuild::{renewed, take_last};
+use crate::term::Term;
 use std::alloc::{AllocError, Global};
 use std::marker::Model;
 
@@ -63,30 +64,30 @@ impl Subst {
         Ok(Term::Var(variable))
     }
 
-    /// The term with each bound variable replaced, all at once.
-    #[cycle(apply)]
-    pub fn apply(&self, alloc: Global, term: &Term) -> Result<Term, AllocError>
-        ensures { IfOk result (λ t. t ≡ apply_of self.now term.now) }
+    // A subterm with its variables replaced, whose arguments, replaced, are the last terms that are done, the
+    // first of them last.
+    fn replaced(&self, alloc: Global, node: &Term, done: &mut Vec<Term>) -> Result<Term, AllocError>
+        requires enough { length (arguments_of node.now) ≤ length done.old.items }
+        requires replaced { take (length (arguments_of node.now)) (reverse done.old.items) ≡ map (apply_of self.now) (arguments_of node.now) }
+        ensures term { IfOk result (λ t. t ≡ apply_of self.now node.now) }
+        ensures others { IfOk result (λ _. reverse done.new.items ≡ drop (length (arguments_of node.now)) (reverse done.old.items)) }
     {
-        match term {
+        match node {
             Term::Var(number) => self.look_up(alloc, *number),
-            Term::Int(value) => Ok(Term::Int(*value)),
-            Term::Atom(name) => Ok(Term::Atom(name.copy(alloc)?)),
-            Term::Compound(name, args) => Ok(Term::Compound(
-                name.copy(alloc)?,
-                self.apply_to_all(alloc, args)?,
-            )),
+            _ => renewed(alloc, node, done),
         }
     }
 
-    #[cycle(apply)]
-    fn apply_to_all(&self, alloc: Global, args: &Args) -> Result<Args, AllocError>
-        ensures { IfOk result (λ all. all ≡ map (apply_of self.now) args.now) }
+    /// The term with each bound variable replaced, all at once.
+    pub fn apply(&self, alloc: Global, term: &Term) -> Result<Term, AllocError>
+        ensures { IfOk result (λ t. t ≡ apply_of self.now term.now) }
     {
-        let mut items = Vec::new(alloc);
-        for arg in args.as_slice() {
-            items.push(self.apply(alloc, arg)?)?;
+        let mut nodes = term.nodes(alloc)?;
+        let mut done = Vec::new(alloc);
+        while let Some(node) = nodes.pop() {
+            let changed = self.replaced(alloc, node, &mut done)?;
+            done.push(changed)?;
         }
-        Ok(NonEmpty::new(items))
+        Ok(take_last(&mut done))
     }
 }

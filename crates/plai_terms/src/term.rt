@@ -1,16 +1,19 @@
-ghost use Rattle.std.specs.Prelude.{◌≡◌, ◌-◌, ◌^◌, min, IfOk};
+ghost use Rattle.std.specs.Prelude.{◌≡◌, ◌-◌, ◌^◌, min, IfOk, List, ◌∷◌};
+ghost use Rattle.plai_terms.specs.declared.term.Term.{Term, Compound};
 ghost use Rattle.plai_terms.specs.Term.{depth_of, is_ground, occurs, has_variables_below};
 
 use crate::name::Name;
 use crate::non_empty::NonEmpty;
+use crate::rebuild::{renewed, take_last};
 use std::alloc::{AllocError, Global};
+use std::mem;
 
 /// The arguments of a compound: at least one.
 pub type Args = NonEmpty<Term>;
 
 /// A term (ISO/IEC 13211-1:1995, 6.1.2 and 7.1). Contracts see it as data, with a name as its bytes and
 /// arguments as a list.
-#[derive(Debug, PartialEq, Eq, Hash, Drop)]
+#[derive(Debug, PartialEq, Eq, Hash)]
 pub enum Term {
     /// A variable, by its number from 0.
     Var(u32),
@@ -22,18 +25,52 @@ pub enum Term {
     Compound(Name, Args),
 }
 
+// The first argument of a compound, whose place other terms take, and the arguments with these.
+fn turn(name: Name, args: Args, others: Args) -> (Term, Args)
+    ensures { (first : Term) × (rest : List Term) × (args ≡ first ∷ rest) × (result ≡ (first, Compound name others ∷ rest)) }
+{
+    let mut items = args.into_vec();
+    let first = mem::replace(&mut items[0], Term::Compound(name, others));
+    (first, NonEmpty::new(items))
+}
+
+// A loop, so that a term of any depth runs out of no stack, and without memory of its own. Beside the term that is
+// let go some others wait. A compound that is met meanwhile gives the place of its first argument to a compound of
+// those, which so comes up last, when no others wait: each compound is met twice at most.
+impl Drop for Term {
+    fn drop(mut self) {
+        let mut waiting: Option<Args> = None;
+        loop {
+            match self {
+                Term::Var(_) | Term::Int(_) | Term::Atom(_) => match waiting {
+                    None => return,
+                    Some(args) => (self, waiting) = args.split_last(),
+                },
+                Term::Compound(name, args) => match waiting {
+                    None => (self, waiting) = args.split_last(),
+                    Some(others) => {
+                        let (first, rest) = turn(name, args, others);
+                        self = first;
+                        waiting = Some(rest);
+                    }
+                },
+            }
+        }
+    }
+}
+
 impl Term {
     /// An equal term.
-    #[cycle(copy)]
     pub fn copy(&self, alloc: Global) -> Result<Term, AllocError>
         ensures { IfOk result (λ t. t ≡ self.now) }
     {
-        match self {
-            Term::Var(number) => Ok(Term::Var(*number)),
-            Term::Int(value) => Ok(Term::Int(*value)),
-            Term::Atom(name) => Ok(Term::Atom(name.copy(alloc)?)),
-            Term::Compound(name, args) => Ok(Term::Compound(name.copy(alloc)?, args.copy(alloc)?)),
+        let mut nodes = self.nodes(alloc)?;
+        let mut done = Vec::new(alloc);
+        while let Some(node) = nodes.pop() {
+            let term = renewed(alloc, node, &mut done)?;
+            done.push(term)?;
         }
+        Ok(take_last(&mut done))
     }
 }
 
@@ -112,7 +149,6 @@ impl Term {
 
 impl NonEmpty<Term> {
     /// Equal arguments.
-    #[cycle(copy)]
     pub fn copy(&self, alloc: Global) -> Result<Args, AllocError>
         ensures { IfOk result (λ args. args ≡ self.now) }
     {
