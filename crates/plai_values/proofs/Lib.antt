@@ -2,3 +2,9 @@ pub mod Modulo
 pub mod Divided
 pub mod Ranges
 pub mod Powers
+pub mod Stacks
+pub mod Evaluation
+pub mod TermOrders
+pub mod Subterms
+pub mod OrderLaws
+pub mod GroundTerms
