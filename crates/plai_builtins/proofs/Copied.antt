@@ -1,7 +1,7 @@
 -- A copy's variables are new, and `copy_term` does what its action allows.
 use Rattle.std.proofs.Common.{◌≡◌, ◌⊎◌, inl, inr, ℕ, suc, ◌<◌, ◌≤◌, Bool, true, false, ◌||◌, not, cond, nat_eq, Option, Some, None, List, [], ◌∷◌, ◌++◌, map, filter, flat_map, refl, sym, ap, subst, ◌∙◌, rules, arith}
 use Rattle.std.specs.Prelude.{option_map}
-use Rattle.std.specs.List.{AllByRecursion}
+use Rattle.std.specs.List.{list_any, AllByRecursion}
 use Rattle.std.proofs.lemmas.Bool.{eqb-true, eq-eqb}
 use Rattle.plai_theory.proofs.Options.{by_test}
 use Rattle.plai_base.specs.Mask.{mask_of}
@@ -24,8 +24,7 @@ use Rattle.plai_builtins.proofs.Turns.{last_action}
 
 -- the number is in the list
 abbrev pub has : ℕ → List ℕ → Bool
-has v [] = false
-has v (u ∷ us) = nat_eq u v || has v us
+has v us = list_any (λ u. nat_eq u v) us
 
 pub has_append : (v : ℕ) (us ws : List ℕ) → (has v us ≡ true) ⊎ (has v ws ≡ true) → has v (us ++ ws) ≡ true
 has_append v [] ws (inl e) = absurd cc
