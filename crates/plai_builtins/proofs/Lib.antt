@@ -1,1 +1,14 @@
+mod Cells
+mod Copied
+mod Demands
+mod Distinct
+mod Equated
+mod Grounded
+mod ListItems
+mod Made
+mod Meant
 pub mod Tables
+mod TermKinds
+mod Turns
+mod Valued
+mod Variables

@@ -2,7 +2,14 @@
 #![tactic(auto)]
 
 mod actions;
+mod concrete;
+mod construct;
+mod copies;
+mod found;
+mod kind;
 mod laws;
+mod lists;
 
 pub use actions::{Actions, actions_of, table};
-pub use laws::table_laws;
+pub use concrete::meaning;
+pub use laws::{meanings_are_allowed, table_laws};

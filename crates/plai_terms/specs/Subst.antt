@@ -1,5 +1,6 @@
 -- Substitutions, and what they make of a term (ISO/IEC 13211-1:1995, 7.3.1; Lloyd, Foundations of Logic Programming, 1987).
-use Rattle.std.specs.Prelude.{ℕ, if◌then◌else◌, ◌==◌, List, [], ◌∷◌, ◌++◌, map}
+use Rattle.std.specs.Prelude.{ℕ, if◌then◌else◌, ◌==◌, List, [], ◌∷◌, ◌++◌, map, filter}
+use Rattle.std.specs.List.{list_any}
 use Rattle.plai_terms.specs.declared.term.Term.{Term, fold-Term, Var, Int, Atom, Compound}
 use Rattle.plai_terms.specs.declared.term.Term.TheOpen.{Term-F}
 
@@ -22,3 +23,7 @@ apply_of s = fold-Term Term (apply_step s)
 -- the bindings of `first`, and then those of `second` put into them and after them
 abbrev pub composed : List (ℕ × Term) → List (ℕ × Term) → List (ℕ × Term)
 composed first second = map (λ p. (p.0, apply_of second p.1)) first ++ second
+
+-- the bindings of these variables alone
+abbrev pub restricted_to : List ℕ → List (ℕ × Term) → List (ℕ × Term)
+restricted_to variables s = filter (λ p. list_any (λ v. v == p.0) variables) s

@@ -1,7 +1,7 @@
-ghost use Rattle.std.specs.Prelude.{◌≡◌, ◌≤◌, [], ◌∷◌, IfOk, length, map, reverse, take, drop, nat_eq};
+ghost use Rattle.std.specs.Prelude.{◌≡◌, ◌≤◌, [], ◌∷◌, ◌++◌, IfOk, length, map, reverse, take, drop, nat_eq};
 ghost use Rattle.std.specs.List.{IsDistinct};
 ghost use Rattle.plai_terms.specs.Preorder.{arguments_of};
-ghost use Rattle.plai_terms.specs.Subst.{bound_to, apply_of};
+ghost use Rattle.plai_terms.specs.Subst.{bound_to, apply_of, restricted_to};
 
 use crate::rebuild::{renewed, take_last};
 use crate::term::Term;
@@ -30,6 +30,21 @@ impl Model for Subst {
     ghost invariant = { λ s. IsDistinct nat_eq (map (λ p. p.0) s.pairs.items) };
 }
 
+// Puts a binding of one of these variables behind those kept so far.
+fn keep(
+    alloc: Global,
+    variables: &[u32],
+    pair: &(u32, Term),
+    kept: &mut Vec<(u32, Term)>,
+) -> Result<(), AllocError>
+    ensures { IfOk result (λ _. kept.new.items ≡ kept.old.items ++ restricted_to variables.now (pair.now ∷ [])) }
+{
+    if variables.contains(&pair.0) {
+        kept.push((pair.0, pair.1.copy(alloc)?))?;
+    }
+    Ok(())
+}
+
 impl Subst {
     /// The substitution with these bindings.
     pub fn new(pairs: Vec<(u32, Term)>) -> Subst
@@ -44,6 +59,17 @@ impl Subst {
         ensures { IfOk result (λ s. s ≡ (variable, term) ∷ []) }
     {
         Ok(Subst::new(vec![in alloc; (variable, term)]?))
+    }
+
+    /// The bindings of these variables alone.
+    pub fn restrict(&self, alloc: Global, variables: &[u32]) -> Result<Subst, AllocError>
+        ensures { IfOk result (λ s. s ≡ restricted_to variables.now self.now) }
+    {
+        let mut kept = Vec::new(alloc);
+        for pair in self.pairs.as_slice() {
+            keep(alloc, variables, pair, &mut kept)?;
+        }
+        Ok(Subst::new(kept))
     }
 
     /// The bindings.

@@ -1,0 +1,187 @@
+-- What the builtin predicates mean (ISO/IEC 13211-1:1995, 8 and 9, without their errors): what each asks of its arguments, and
+-- the substitution that meets it. Where one thing is to unify with another, the one named first stands on the left.
+use Rattle.std.specs.Prelude.{◌≡◌, ℕ, zero, suc, ℤ, pos, Bool, true, false, not, ◌||◌, cond, nat_eq, nat_le, Option, Some, None, option_map, List, [], ◌∷◌, filter, length, codes, if◌then◌else◌}
+use Rattle.std.specs.Cmp.Lexicographic.{pointwise}
+use Rattle.plai_theory.specs.Words.{given, item}
+use Rattle.plai_terms.specs.Term.{is_ground, occurs}
+use Rattle.plai_terms.specs.Unification.{Bindings, UnifiesTo}
+use Rattle.plai_terms.specs.declared.term.Term.{Term, Var, Int, Atom, Compound, out-Term}
+use Rattle.plai_terms.specs.declared.term.Term.TheOpen.{Term-F}
+use Rattle.plai_terms.specs.declared.outcome.Outcome.{Outcome}
+use Rattle.plai_terms.specs.declared.outcome.Outcome.TheVariants.{Unified, Clash, Occurs}
+use Rattle.plai_values.specs.declared.comparison.Comparison.{Comparison}
+use Rattle.plai_values.specs.Functors.{comparison_named, term_comparison_named}
+use Rattle.plai_values.specs.Values.{value_of, compares}
+use Rattle.plai_values.specs.TermOrder.{compares_terms}
+use Rattle.plai_builtins.specs.Lists.{list_of, list_items}
+use Rattle.plai_builtins.specs.Copies.{copy_of}
+
+-- what is asked: what never holds, a test, that terms unify in turn with others, that two terms don't unify, and that two terms
+-- unify, where the variables of the first alone are bound
+pub data Demand : Type 0 where
+  Never : Demand
+  Test : Bool → Demand
+  Solve : List Term → List Term → Demand
+  Apart : Term → Term → Demand
+  SolveWithin : Term → Term → Demand
+
+-- the bindings of a test, of an outcome, of one that is to fail
+abbrev pub tested : Bool → Option Bindings
+tested b = if b then Some [] else None
+
+abbrev pub solved : Outcome → Option Bindings
+solved (Unified s) = Some s
+solved Clash = None
+solved Occurs = None
+
+abbrev pub refuted : Outcome → Option Bindings
+refuted (Unified s) = None
+refuted Clash = Some []
+refuted Occurs = Some []
+
+-- the bindings of a term's variables
+abbrev pub kept_to : Term → Bindings → Bindings
+kept_to t s = filter (λ p. occurs p.0 t) s
+
+-- the bindings meet the demand, or nothing does
+abbrev pub Meets : Demand → Option Bindings → Type 0
+Meets Never found = found ≡ None
+Meets (Test b) found = found ≡ tested b
+Meets (Solve left right) found = (o : Outcome) × UnifiesTo left right o × (found ≡ solved o)
+Meets (Apart l r) found = (o : Outcome) × UnifiesTo (l ∷ []) (r ∷ []) o × (found ≡ refuted o)
+Meets (SolveWithin l r) found = (o : Outcome) × UnifiesTo (l ∷ []) (r ∷ []) o × (found ≡ option_map (kept_to l) (solved o))
+
+-- kinds of terms
+abbrev pub is_variable : Term-F Term → Bool
+is_variable (Term-F.Var _) = true
+is_variable _ = false
+
+abbrev pub is_integer : Term-F Term → Bool
+is_integer (Term-F.Int _) = true
+is_integer _ = false
+
+abbrev pub is_atom : Term-F Term → Bool
+is_atom (Term-F.Atom _) = true
+is_atom _ = false
+
+abbrev pub is_compound : Term-F Term → Bool
+is_compound (Term-F.Compound _ _) = true
+is_compound _ = false
+
+-- an integer from 0 up to a greatest one
+abbrev pub number_in : ℕ → Term-F Term → Option ℕ
+number_in greatest (Term-F.Int (pos n)) = cond (nat_le n greatest) (Some n) None
+number_in greatest _ = None
+
+abbrev pub number_up_to : ℕ → Term → Option ℕ
+number_up_to greatest t = number_in greatest (out-Term t)
+
+-- `functor(T,N,A)` where T is a variable: T is N, where A is 0; T is N over A new variables, where N is an atom
+abbrev pub new_variables : ℕ → ℕ → List Term
+new_variables first zero = []
+new_variables first (suc k) = Var first ∷ new_variables (suc first) k
+
+abbrev pub construct : ℕ → Term → Term → Term-F Term → Option ℕ → Demand
+construct fresh t n (Term-F.Int _) (Some zero) = Solve (t ∷ []) (n ∷ [])
+construct fresh t n (Term-F.Atom _) (Some zero) = Solve (t ∷ []) (n ∷ [])
+construct fresh t n (Term-F.Atom name) (Some (suc k)) = Solve (t ∷ []) (Compound name (new_variables fresh (suc k)) ∷ [])
+construct fresh t n _ _ = Never
+
+-- `functor(T,N,A)`: N and A unify with T's name and number of arguments (8.5.1)
+abbrev pub functor_at : ℕ → Term → Term → Term → Term-F Term → Demand
+functor_at fresh t n a (Term-F.Var _) = construct fresh t n (out-Term n) (number_up_to 255 a)
+functor_at fresh t n a (Term-F.Int _) = Solve (n ∷ a ∷ []) (t ∷ Int (pos 0) ∷ [])
+functor_at fresh t n a (Term-F.Atom _) = Solve (n ∷ a ∷ []) (t ∷ Int (pos 0) ∷ [])
+functor_at fresh t n a (Term-F.Compound name args) = Solve (n ∷ a ∷ []) (Atom name ∷ Int (pos (length args)) ∷ [])
+
+-- `arg(N,T,A)`: T's N-th argument, from 1, unifies with A (8.5.2)
+abbrev pub nth : List Term → Option ℕ → Option Term
+nth args (Some (suc i)) = item args i
+nth args _ = None
+
+abbrev pub arg_at : Term → Term → Term-F Term → Demand
+arg_at n a (Term-F.Compound name args) = given Never (λ x. Solve (x ∷ []) (a ∷ [])) (nth args (number_up_to (length args) n))
+arg_at n a _ = Never
+
+-- `T =.. L` where T is a variable: it unifies with the term that the items of L make
+abbrev pub made_by : Term → List Term → Term-F Term → List Term → Demand
+made_by t items (Term-F.Int n) [] = Solve (t ∷ []) items
+made_by t items (Term-F.Atom name) [] = Solve (t ∷ []) items
+made_by t items (Term-F.Atom name) (x ∷ xs) = if nat_le (length (x ∷ xs)) 255 then Solve (t ∷ []) (Compound name (x ∷ xs) ∷ []) else Never
+made_by t items _ _ = Never
+
+abbrev pub made_of : Term → List Term → Demand
+made_of t [] = Never
+made_of t (x ∷ xs) = made_by t (x ∷ []) (out-Term x) xs
+
+-- `T =.. L`: L unifies with the list of T's name and arguments (8.5.3)
+abbrev pub univ_at : Term → Term → Term-F Term → Demand
+univ_at t l (Term-F.Var _) = given Never (made_of t) (list_items l)
+univ_at t l (Term-F.Int _) = Solve (l ∷ []) (list_of (t ∷ []) ∷ [])
+univ_at t l (Term-F.Atom _) = Solve (l ∷ []) (list_of (t ∷ []) ∷ [])
+univ_at t l (Term-F.Compound name args) = Solve (l ∷ []) (list_of (Atom name ∷ args) ∷ [])
+
+-- a comparison of two values (8.7), where both are there
+abbrev pub compared : Comparison → Option ℤ → Option ℤ → Bool
+compared c (Some x) (Some y) = compares c x y
+compared c _ _ = false
+
+abbrev pub is_named : List ℕ → List ℕ → Bool
+is_named name text = pointwise nat_eq name text
+
+-- of no argument
+abbrev pub nullary : List ℕ → Demand
+nullary name =
+    if is_named name (codes "true") then Test true
+    else if is_named name (codes "!") then Test true
+    else if is_named name (codes "nl") then Test true
+    else Never
+
+-- of one argument
+abbrev pub unary : List ℕ → Term → Demand
+unary name t =
+    if is_named name (codes "write") then Test true
+    else if is_named name (codes "var") then Test (is_variable (out-Term t))
+    else if is_named name (codes "nonvar") then Test (not (is_variable (out-Term t)))
+    else if is_named name (codes "atom") then Test (is_atom (out-Term t))
+    else if is_named name (codes "atomic") then Test (is_atom (out-Term t) || is_integer (out-Term t))
+    else if is_named name (codes "ground") then Test (is_ground t)
+    else if is_named name (codes "integer") then Test (is_integer (out-Term t))
+    else if is_named name (codes "compound") then Test (is_compound (out-Term t))
+    else Never
+
+-- of two arguments, but for comparisons
+abbrev pub binary : ℕ → List ℕ → Term → Term → Demand
+binary fresh name l r =
+    if is_named name (codes "=") then Solve (l ∷ []) (r ∷ [])
+    else if is_named name (codes "\\=") then Apart l r
+    else if is_named name (codes "is") then given Never (λ n. Solve (Int n ∷ []) (l ∷ [])) (value_of r)
+    else if is_named name (codes "=..") then univ_at l r (out-Term l)
+    else if is_named name (codes "copy_term") then SolveWithin r (copy_of fresh l)
+    else Never
+
+-- of two arguments
+abbrev pub comparison_or : Demand → List ℕ → Term → Term → Demand
+comparison_or other name l r =
+    given (given other (λ c. Test (compared c (value_of l) (value_of r))) (comparison_named name))
+    (λ c. Test (compares_terms c l r)) (term_comparison_named name)
+
+-- of three arguments
+abbrev pub ternary : ℕ → List ℕ → Term → Term → Term → Demand
+ternary fresh name x y z =
+    if is_named name (codes "functor") then functor_at fresh x y z (out-Term x)
+    else if is_named name (codes "arg") then arg_at x z (out-Term y)
+    else Never
+
+-- What the builtin of this name and these arguments asks; new variables are numbered from `fresh` on. What is no builtin asks
+-- what never holds.
+abbrev pub demand_of : List ℕ → List Term → ℕ → Demand
+demand_of name [] fresh = nullary name
+demand_of name (x ∷ []) fresh = unary name x
+demand_of name (x ∷ y ∷ []) fresh = comparison_or (binary fresh name x y) name x y
+demand_of name (x ∷ y ∷ z ∷ []) fresh = ternary fresh name x y z
+demand_of name _ fresh = Never
+
+-- The meaning of a builtin: for a name, arguments and the number of the first new variable, a substitution or none.
+abbrev pub Means : List ℕ → List Term → ℕ → Option Bindings → Type 0
+Means name args fresh found = Meets (demand_of name args fresh) found
