@@ -23,19 +23,19 @@ length-answers_below zero at = refl
 length-answers_below (suc n) at = ap suc (length-answers_below n (λ k. at (suc k)))
 
 -- the set of the true slots below a number
-mask_below : ℕ → Assignment → ℕ
+pub mask_below : ℕ → Assignment → ℕ
 mask_below n at = pattern (answers_below n at)
 
-mask_below-lt : (n : ℕ) (at : Assignment) → mask_below n at < 2 ^ n
+pub mask_below-lt : (n : ℕ) (at : Assignment) → mask_below n at < 2 ^ n
 unfolding mask_below
 mask_below-lt n at = subst (λ k. mask_below n at < 2 ^ k) (length-answers_below n at) (pattern_lt (answers_below n at))
 
-mask_below-slot : (n : ℕ) (at : Assignment) (k : ℕ) → k < n → has_slot (mask_below n at) k ≡ at k
+pub mask_below-slot : (n : ℕ) (at : Assignment) (k : ℕ) → k < n → has_slot (mask_below n at) k ≡ at k
 unfolding mask_below
 mask_below-slot n at k lt = pattern_slot (answers_below n at) k ∙ answers_below-at n at k lt
 
 -- a function of the slots below the bound answers at an assignment as at a mask
-at_mask : (nodes : List Node) (bound : ℕ) → IsCanonical nodes → IsOver bound nodes → (at : Assignment) → holds nodes at ≡ is_model nodes (mask_below bound at)
+pub at_mask : (nodes : List Node) (bound : ℕ) → IsCanonical nodes → IsOver bound nodes → (at : Assignment) → holds nodes at ≡ is_model nodes (mask_below bound at)
 at_mask nodes bound c over at = holds-below nodes bound c over at (has_slot (mask_below bound at)) (λ k lt. sym (mask_below-slot bound at k lt))
 
 module _ (left right : List Node) (bound : ℕ) (cl : IsCanonical left) (cr : IsCanonical right) (over_left : IsOver bound left) (over_right : IsOver bound right) where

@@ -1,7 +1,9 @@
 pub mod Assignment
 pub mod Change
 pub mod Nodes
+pub mod Props
 pub mod Slots
 pub mod Table
+pub mod Text
 pub mod Tree
 pub mod Walk

@@ -1,15 +1,17 @@
-ghost use Rattle.std.specs.Prelude.{◌≡◌, ◌<◌, ◌≤◌, ◌+◌, ◌-◌, ◌^◌, ◌&&◌, ◌||◌, ◌↔◌, ℕ, IsTrue, IfOk, length};
+ghost use Rattle.std.specs.Prelude.{◌≡◌, ◌<◌, ◌≤◌, ◌+◌, ◌-◌, ◌^◌, ◌&&◌, ◌||◌, ◌↔◌, ◌++◌, ℕ, IsTrue, IfOk, OnOk, OnErr, length};
 ghost use Rattle.std.specs.Bool.{beq};
 ghost use Rattle.plai_base.specs.Mask.{has_slot};
 ghost use Rattle.plai_bdd.specs.Assignment.{Assignment, IsFree, with_slot};
 ghost use Rattle.plai_bdd.specs.Change.{IsPlaceable, combined};
 ghost use Rattle.plai_bdd.specs.Nodes.{AreSameFunction, HaveSameModels, IsCanonical, IsFunction, IsOver, holds, is_model, root_of};
+ghost use Rattle.plai_bdd.specs.Text.{tree_text};
 ghost use Rattle.plai_bdd.specs.Slots.{AllTrue, Somewhere, and_slot, conjunction, quantified, some_slot};
 
 use crate::change::{Change, Connective};
 use crate::combine::{Pair, combine, has_branch};
 use crate::node::Node;
-use crate::walk::{either, implies_at, root_of_either};
+use crate::print::write_node;
+use crate::walk::{answer_at, either, implies_at, root_of_either};
 use indexmap::{IndexMap, IndexSet};
 use plai_base::Mask;
 use std::alloc::{AllocError, Global};
@@ -150,18 +152,33 @@ impl Bdd {
         }
     }
 
+    /// The function that all slots of the set are true.
+    pub fn all_of(alloc: Global, all: Mask) -> Result<Bdd, AllocError>
+        ensures { IfOk result (λ b. IsFunction b (conjunction all)) }
+    {
+        let mut conjunction = Bdd::constant(alloc, true)?;
+        for k in 0..64 {
+            conjunction = conjunction.and_slot(alloc, all, k)?;
+        }
+        Ok(conjunction)
+    }
+
+    /// The function that both are true, or neither.
+    pub fn iff(&self, alloc: Global, other: &Bdd) -> Result<Bdd, AllocError>
+        ensures { IfOk result (λ b. IsFunction b (λ at. beq (holds self.now at) (holds other.now at))) }
+    {
+        self.combined(alloc, other, Connective::Iff, Change::Keep)
+    }
+
     /// The function that the slot is true if and only if all of the set are.
     pub fn iff_all(alloc: Global, slot: u32, all: Mask) -> Result<Bdd, AllocError>
         requires { slot < 64 }
         ensures function { IfOk result (λ b. IsFunction b (λ at. beq (at slot) (conjunction all at))) }
         ensures meaning { IfOk result (λ b. (at : Assignment) → IsTrue (holds b at) ↔ (IsTrue (at slot) ↔ AllTrue all at)) }
     {
-        let mut conjunction = Bdd::constant(alloc, true)?;
-        for k in 0..64 {
-            conjunction = conjunction.and_slot(alloc, all, k)?;
-        }
+        let conjunction = Bdd::all_of(alloc, all)?;
         let variable = Bdd::variable(alloc, slot)?;
-        variable.combined(alloc, &conjunction, Connective::Iff, Change::Keep)
+        variable.iff(alloc, &conjunction)
     }
 
     /// The function, or what it is at some answer of a slot if that is in the set.
@@ -224,6 +241,27 @@ impl Bdd {
             right: root_of_either(a, b),
         };
         implies_at(left, &right, roots)
+    }
+
+    /// Whether the function is true where the slots of the set are true and no others. Nothing is allocated.
+    pub fn is_model(&self, mask: Mask) -> bool
+        ensures { result ≡ is_model self.now mask }
+    {
+        let nodes = self.nodes.as_slice();
+        answer_at(nodes, nodes.len() - 1, mask)
+    }
+
+    /// Appends the function's text: `t` where it is true at all assignments, `f` where it is at none, and else `(i Y N)`
+    /// with the least slot that it depends on, counted from 1, and the texts of the function with that slot true and with
+    /// it false. The time is linear in the text. After want of memory `out` is as before.
+    pub fn print(&self, alloc: Global, out: &mut Vec<u8>) -> Result<(), AllocError>
+        ensures ok { OnOk result (out.new.items ≡ out.old.items ++ tree_text (root_of self.now)) }
+        ensures err { OnErr result (out.new.items ≡ out.old.items) }
+    {
+        let nodes = self.nodes.as_slice();
+        let mut text = Vec::new(alloc);
+        write_node(nodes, nodes.len() - 1, &mut text)?;
+        out.extend_from_slice(&text)
     }
 
     /// The number of nodes, leaves among them, which is at least 1. That every list is canonical stands here for callers that

@@ -6,6 +6,7 @@ mod bdd;
 mod change;
 mod combine;
 mod node;
+mod print;
 mod table;
 #[cfg(test)]
 mod tests;

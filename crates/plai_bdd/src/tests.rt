@@ -48,6 +48,11 @@ fn two_slots_are_joined_compared_and_taken_apart(rt: HostRuntime) -> Result<(), 
     ] {
         assert_eq!(rt; left.implies(right), implied);
     }
+    assert!(rt; x.iff(alloc, &y)?.is_model(Mask::empty()) && !either.is_model(Mask::empty()));
+    assert_eq!(rt; Bdd::all_of(alloc, slots(0, 2))?, both);
+    let mut text = Vec::new(alloc);
+    either.print(alloc, &mut text)?;
+    assert_eq!(rt; text.as_slice(), b"(1 t (2 t f))".as_slice());
     assert!(rt; either.forces(0, 1));
     assert!(rt; !either.forces(1, 1));
     assert!(rt; both.forces(1, 1));

@@ -1,5 +1,7 @@
 ghost use Rattle.std.specs.Prelude.{◌≡◌, ◌<◌, ◌≤◌, ◌↔◌, IsTrue, length, get_or, slice_set, true};
+ghost use Rattle.plai_base.specs.Mask.{has_slot};
 ghost use Rattle.plai_bdd.specs.Nodes.{tree_at};
+ghost use Rattle.plai_bdd.specs.Tree.{value};
 ghost use Rattle.plai_bdd.specs.Table.{IsSource};
 ghost use Rattle.plai_bdd.specs.Walk.{AreShown, Implies, either_nodes, either_root, no_line, shows, with_pair};
 ghost use Rattle.plai_bdd.specs.declared.change.Change.TheVariants.{Keep};
@@ -196,4 +198,21 @@ pub fn root_of_either(a: u32, b: u32) -> usize
     ensures { result ≡ either_root a b }
 {
     if a == b { 2 } else { 3 }
+}
+
+/// The answer of the function at a place, where the slots of the set are true and no others.
+pub fn answer_at(nodes: &[Node], place: usize, mask: Mask) -> bool
+    requires { IsSource Keep nodes.now place }
+    ensures { result ≡ value (tree_at nodes.now place) (has_slot mask) }
+{
+    match node_at(nodes, place) {
+        Node::Leaf(answer) => answer,
+        Node::Branch { slot, low, high } => {
+            if mask.contains(slot) {
+                answer_at(nodes, high, mask)
+            } else {
+                answer_at(nodes, low, mask)
+            }
+        }
+    }
 }

@@ -1,40 +1,76 @@
 -- The order of values.
-use Rattle.std.proofs.Common.{◌≡◌, ℕ, ◌^◌, Bool, ◌||◌, List, IsTrue, ◌↔◌, refl, sym, ap, ◌∙◌, subst}
-use Rattle.plai_base.specs.Sets.{has, has_all, kept, IsSet}
+use Rattle.std.proofs.Common.{◌≡◌, ℕ, ◌+◌, ◌^◌, ◌<◌, Bool, true, false, ◌||◌, List, IsTrue, ◌↔◌, refl, sym, ap, ◌∙◌, subst}
+use Rattle.plai_base.specs.Sets.{has}
+use Rattle.plai_base.proofs.Sets.{has_kept, kept_has, has-kept, kept_same}
+use Rattle.plai_bdd.specs.declared.node.Node.{Node}
+use Rattle.plai_bdd.specs.Nodes.{holds, is_model, IsFunction, IsOver}
 use Rattle.plai_assignments.specs.Assignments.{IsPositive, join_of}
 use Rattle.plai_assignments.specs.Groundness.{Leq}
 use Rattle.plai_assignments.proofs.Laws.{value_of_positive}
 use Rattle.plai_assignments.proofs.Order.{value_join}
-use Rattle.plai_assignments.proofs.Parts.{all_of, all_from}
 use Rattle.plai_pos.specs.declared.value.Value.{Value}
-use Rattle.plai_pos.specs.Values.{value_of}
+use Rattle.plai_pos.specs.declared.value.State.{State}
+use Rattle.plai_pos.specs.Values.{value_of, models_of, IsDiagramOf}
+use Rattle.plai_pos.proofs.Alike.{TrueAlike, alike_of, alike_as, diagram_of, positive_of}
 
--- ---- the order, and join
+pub value_positive : (v : Value) → IsPositive v.arity (models_of v.arity v.diagram)
+value_positive v = positive_of v.arity v.diagram v.top
+
+pub state_positive : (s : State) → IsPositive (s.arity + s.variables) (models_of (s.arity + s.variables) s.diagram)
+state_positive s = positive_of (s.arity + s.variables) s.diagram s.top
 
 pub is_value : (v : Value) (n : ℕ) → v.arity ≡ n → Leq n (value_of v) (value_of v)
-is_value v n e = subst (λ k. Leq k (value_of v) (value_of v)) e (value_of_positive v.positive)
+is_value v n e = subst (λ k. Leq k (value_of v) (value_of v)) e (value_of_positive (value_positive v))
 
-pub within_value : (a b : Value) (xs ys : List ℕ) (result : Bool) → a.arity ≡ b.arity → xs ≡ a.masks → ys ≡ b.masks → result ≡ has_all xs (λ m. has ys m)
+-- one function implies another where its models are among the other's
+pub within_value : (a b : Value) (result : Bool) → a.arity ≡ b.arity
+    → ((bound : ℕ) → IsOver bound a.diagram → IsOver bound b.diagram
+    → (IsTrue result ↔ ((mask : ℕ) → mask < 2 ^ bound → IsTrue (is_model a.diagram mask) → IsTrue (is_model b.diagram mask))))
     → IsTrue result ↔ Leq a.arity (value_of a) (value_of b)
-within_value a b xs ys result same e f t =
+within_value a b result same d =
     let p = is_value a a.arity refl in
     let q = is_value b a.arity (sym same) in
-    let whole : result ≡ has_all a.masks (λ m. has b.masks m) = t ∙ ap (λ l. has_all l (λ m. has ys m)) e ∙ ap (λ l. has_all a.masks (λ m. has l m)) f in (
+    let e = d a.arity a.over (subst (λ k. IsOver k b.diagram) (sym same) b.over) in (
       λ yes. record {
         first_is = p.first_is;
         second_is = q.second_is;
-        order = record { first = p.order.first; second = q.order.second; within = λ m h. all_of a.masks (λ m. has b.masks m) m (sym whole ∙ yes) h };
+        order = record {
+          first = p.order.first;
+          second = q.order.second;
+          within = λ m h.
+              let r = has_kept (2 ^ a.arity) (is_model a.diagram) m h in
+              subst (λ k. has (models_of k b.diagram) m ≡ true) same (kept_has (2 ^ a.arity) (is_model b.diagram) m r.0 (e.0 yes m r.0 r.1));
+        };
       },
-      λ le. whole ∙ all_from a.masks (λ m. has b.masks m) le.order.within,
+      λ le. e.1 (λ m l t.
+          (has_kept (2 ^ b.arity) (is_model b.diagram) m (le.order.within m (kept_has (2 ^ a.arity) (is_model a.diagram) m l t))).1),
     )
 
-module _ (n : ℕ) (xs ys left right items : List ℕ) (x : IsPositive n xs) (y : IsPositive n ys) (first : left ≡ xs) (second : right ≡ ys)
-    (merged : (bound : ℕ) → IsSet bound left → IsSet bound right → items ≡ kept bound (λ m. has left m || has right m)) where
-  pub joined : items ≡ join_of n xs ys
-  joined =
-      merged (2 ^ n) (subst (IsSet (2 ^ n)) (sym first) x.is_set) (subst (IsSet (2 ^ n)) (sym second) y.is_set)
-      ∙ ap (λ l. kept (2 ^ n) (λ m. has l m || has right m)) first
-      ∙ ap (λ l. kept (2 ^ n) (λ m. has xs m || has l m)) second
+or_right_alike : (n : ℕ) (a b : List Node) → TrueAlike n (holds a) → TrueAlike n (holds b) → TrueAlike n (λ at. holds a at || holds b at)
+or_right_alike n a b p q at other same = by (holds a at) (holds b at) refl refl
+  where
+    left : (x y : Bool) → x ≡ true → (x || y) ≡ true
+    left true y e = refl
+    left false y e = ap (λ b. b || y) e
 
-  pub joined_positive : IsPositive n items
-  joined_positive = subst (IsPositive n) (sym joined) (value_join n xs ys x y)
+    right : (x y : Bool) → y ≡ true → (x || y) ≡ true
+    right true y e = refl
+    right false y e = e
+
+    by : (x y : Bool) → holds a at ≡ x → holds b at ≡ y → IsTrue (holds a at || holds b at) → IsTrue (holds a other || holds b other)
+    by true y e f t = left (holds a other) (holds b other) (p at other same e)
+    by false true e f t = right (holds a other) (holds b other) (q at other same f)
+    by false false e f t = absurd (no (sym (λ i. e i || f i) ∙ t))
+      where
+        no : ◌≡◌ {A = Bool} (false || false) true → ⊥
+        no g = cc
+
+pub joined : (a b : Value) (nodes : List Node) → a.arity ≡ b.arity → IsFunction nodes (λ at. holds a.diagram at || holds b.diagram at)
+    → IsDiagramOf a.arity (join_of a.arity (models_of a.arity a.diagram) (models_of b.arity b.diagram)) nodes
+joined a b nodes same h =
+    let over : IsOver a.arity b.diagram = subst (λ k. IsOver k b.diagram) (sym same) b.over in
+    diagram_of a.arity _ nodes h.canonical
+    (alike_as a.arity nodes _ h (or_right_alike a.arity a.diagram b.diagram (alike_of a.arity a.diagram a.canonical a.over) (alike_of a.arity b.diagram b.canonical over)))
+    (kept_same (2 ^ a.arity) (is_model nodes) (λ m. has (models_of a.arity a.diagram) m || has (models_of b.arity b.diagram) m)
+    (λ m l. h.answers _ ∙ (λ i. sym (has-kept (2 ^ a.arity) (is_model a.diagram) m l) i || sym (has-kept (2 ^ b.arity) (is_model b.diagram) m (subst (λ k. m < 2 ^ k) same l)) i)))
+    (value_join a.arity _ _ (value_positive a) (subst (λ k. IsPositive k (models_of b.arity b.diagram)) (sym same) (value_positive b)))

@@ -1,8 +1,9 @@
+pub mod Alike
+pub mod Allowed
 pub mod Equal
 pub mod Literals
-pub mod Marking
-pub mod Merging
-pub mod Placed
+pub mod Masks
+pub mod Printed
 pub mod Refined
-pub mod Sorted
 pub mod Shapes
+pub mod Terms

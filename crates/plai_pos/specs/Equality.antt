@@ -1,26 +1,36 @@
 -- `==` of values is equality of what contracts see of them.
-use Rattle.std.proofs.Common.{◌≡◌, ℕ, Bool, true, ◌&&◌, nat_eq, List, [], ◌∷◌, IsTrue, ◌↔◌, refl, sym, ap, ◌∙◌, subst}
+use Rattle.std.proofs.Common.{◌≡◌, ℕ, ◌^◌, ◌<◌, ◌≤◌, Bool, ◌&&◌, nat_eq, IsTrue, ◌↔◌, refl, sym, ap, ◌∙◌, subst}
 use Rattle.std.specs.Cmp.Lexicographic.{pointwise}
 use Rattle.std.proofs.lemmas.Bool.{eq-eqb, eqb-true, and_parts, and_from}
+use Rattle.plai_base.specs.Sets.{has}
+use Rattle.plai_base.proofs.Sets.{has-kept}
+use Rattle.plai_bdd.specs.Nodes.{is_model}
+use Rattle.plai_bdd.proofs.Models.{same_models}
+use Rattle.plai_bdd.proofs.Same.{node_equal, lists_decided}
 use Rattle.plai_terms.specs.declared.abs.Abs.TheVariants.{Pos}
-use Rattle.plai_terms.proofs.Same.{names_equal}
 use Rattle.plai_assignments.specs.Groundness.{masks_of, arity_of}
 use Rattle.plai_pos.specs.declared.value.Value.{Value}
-use Rattle.plai_pos.specs.Values.{value_of}
+use Rattle.plai_pos.specs.Values.{value_of, models_of}
 
-same_masks : (xs : List ℕ) → pointwise nat_eq xs xs ≡ true
-same_masks [] = refl
-same_masks (x ∷ xs) = and_from _ _ (eq-eqb x x refl) (same_masks xs)
+models_tell : (a b : Value) → value_of a ≡ value_of b → (mask : ℕ) → mask < 2 ^ a.arity → is_model a.diagram mask ≡ is_model b.diagram mask
+models_tell a b same mask l =
+    let n : a.arity ≡ b.arity = ap arity_of same in
+    sym (has-kept (2 ^ a.arity) (is_model a.diagram) mask l)
+    ∙ ap (λ v. has (masks_of v) mask) same
+    ∙ has-kept (2 ^ b.arity) (is_model b.diagram) mask (subst (λ k. mask < 2 ^ k) n l)
 
-abs_apart : (n m : ℕ) (xs ys : List ℕ) → n ≡ m → xs ≡ ys → (nat_eq n m && pointwise nat_eq xs ys) ≡ true
-abs_apart n m xs ys e f = and_from _ _ (eq-eqb n m e) (subst (λ l. pointwise nat_eq xs l ≡ true) f (same_masks xs))
+diagrams_same : (a b : Value) → value_of a ≡ value_of b → a.diagram ≡ b.diagram
+diagrams_same a b same =
+    let n : b.arity ≡ a.arity = ap arity_of (sym same) in
+    same_models a.diagram b.diagram a.arity a.canonical b.canonical a.over (λ slot l. b.over slot (subst (λ k. k ≤ slot) (sym n) l)) (models_tell a b same)
 
-pub same_value : (a b : Value) (result : Bool) → result ≡ (nat_eq a.arity b.arity && pointwise nat_eq a.masks b.masks) → IsTrue result ↔ (value_of a ≡ value_of b)
-same_value a b result e = (
-  λ yes.
-      let r = and_parts (nat_eq a.arity b.arity) (pointwise nat_eq a.masks b.masks) (sym e ∙ yes) in
-      let p = eqb-true a.arity b.arity r.0 in
-      let q = names_equal a.masks b.masks r.1 in
-      λ i. Pos (p i) (q i),
-  λ same. e ∙ abs_apart a.arity b.arity a.masks b.masks (ap arity_of same) (ap masks_of same),
-)
+pub same_value : (a b : Value) (result : Bool) → result ≡ (nat_eq a.arity b.arity && pointwise node_equal a.diagram b.diagram) → IsTrue result ↔ (value_of a ≡ value_of b)
+same_value a b result e =
+    let d = lists_decided (pointwise node_equal a.diagram b.diagram) a.diagram b.diagram a.diagram b.diagram refl refl refl in (
+      λ yes.
+          let r = and_parts (nat_eq a.arity b.arity) (pointwise node_equal a.diagram b.diagram) (sym e ∙ yes) in
+          let p = eqb-true a.arity b.arity r.0 in
+          let q = d.0 r.1 in
+          λ i. Pos (p i) (models_of (p i) (q i)),
+      λ same. e ∙ and_from _ _ (eq-eqb a.arity b.arity (ap arity_of same)) (d.1 (diagrams_same a b same)),
+    )

@@ -1,3 +1,3 @@
-pub mod Ordered
 pub mod Values
+pub mod Unified
 pub mod Equality

@@ -1,4 +1,4 @@
-ghost use Rattle.std.specs.Prelude.{◌≡◌, ◌+◌, ◌++◌, ◌≤◌, ◌↔◌, true, All, IsTrue, IfOk, OnOk, OnErr, length};
+ghost use Rattle.std.specs.Prelude.{◌≡◌, ◌+◌, ◌≤◌, ◌↔◌, ◌++◌, true, All, IsTrue, IfOk, OnOk, OnErr, length};
 ghost use Rattle.std.specs.Option.{option_map};
 ghost use Rattle.plai_terms.specs.Pattern.{pattern_text};
 ghost use Rattle.plai_domain.specs.Instances.{speaks_within, all_below, acts_within};
@@ -6,10 +6,9 @@ ghost use Rattle.plai_assignments.specs.Groundness.{arity_of, groundness};
 ghost use Rattle.plai_pos.specs.Values.{value_of, state_of};
 
 use crate::value::{State, Value};
-use crate::{enter, literal, properties, refine, sets};
-use plai_base::Mask;
+use crate::{literal, properties, refine};
 use plai_domain::Action;
-use plai_terms::{Abs, Listed, Prop, Term, print_abs};
+use plai_terms::{Abs, Listed, Prop, Term};
 use std::alloc::{AllocError, Global};
 
 /// The domain of groundness (Marriott and Sondergaard 1993). Each call gives what the plain domain gives.
@@ -33,11 +32,8 @@ impl Ground {
         requires within { All (speaks_within arity) pre.now }
         ensures { IfOk result (λ value. value_of value ≡ groundness.describe arity pre.now) }
     {
-        let masks = properties::describe(alloc, arity, pre)?;
-        Ok(Value {
-            arity,
-            masks: Listed::new(masks),
-        })
+        let diagram = properties::describe(alloc, arity, pre)?;
+        Ok(Value { arity, diagram })
     }
 
     /// The state in which a clause of so many variables begins, for a call of as many arguments as its head has.
@@ -54,11 +50,11 @@ impl Ground {
         ensures { IfOk result (λ state. option_map state_of state
             ≡ (groundness.enter (value_of call.now) head.now variables).value) }
     {
-        let masks = enter::enter(alloc, call.arity, variables, head, call.masks.as_slice())?;
+        let diagram = literal::enter(alloc, call, head, variables)?;
         Ok(Some(State {
             arity: call.arity,
             variables,
-            masks: Listed::new(masks),
+            diagram,
         }))
     }
 
@@ -70,14 +66,15 @@ impl Ground {
         args: &[Term],
     ) -> Result<Value, AllocError>
         requires small { length args.now ≤ 16 }
+        requires slots { (state_of state.now).arity + (state_of state.now).variables + length args.now ≤ 64 }
         requires below { all_below (state_of state.now).variables args.now ≡ true }
         ensures { IfOk result (λ value. value_of value
             ≡ (groundness.call (state_of state.now) args.now).value) }
     {
-        let masks = literal::call(alloc, state.arity, state.masks.as_slice(), args)?;
+        let diagram = literal::call(alloc, state, args)?;
         Ok(Value {
             arity: args.len() as u32,
-            masks: Listed::new(masks),
+            diagram,
         })
     }
 
@@ -90,19 +87,14 @@ impl Ground {
         answer: &Value,
     ) -> Result<Option<State>, AllocError>
         requires small { length args.now ≤ 16 }
+        requires slots { (state_of state.now).arity + (state_of state.now).variables + length args.now ≤ 64 }
         requires below { all_below (state_of state.now).variables args.now ≡ true }
         requires answer { arity_of (value_of answer.now) ≡ length args.now }
         ensures { IfOk result (λ next. option_map state_of next
             ≡ (groundness.back (state_of state.now) args.now (value_of answer.now)).value) }
     {
-        let masks = literal::back(
-            alloc,
-            state.arity,
-            state.masks.as_slice(),
-            args,
-            answer.masks.as_slice(),
-        )?;
-        Ok(Some(state.with_masks(masks)))
+        let diagram = literal::back(alloc, state, args, answer)?;
+        Ok(Some(state.with_diagram(diagram)))
     }
 
     /// What an action of a builtin leaves of the state at a literal with these arguments, or none.
@@ -130,10 +122,10 @@ impl Ground {
     ) -> Result<Value, AllocError>
         ensures { IfOk result (λ value. value_of value ≡ groundness.exit (state_of state.now) head.now) }
     {
-        let masks = sets::projected(alloc, state.arity, state.masks.as_slice())?;
+        let diagram = literal::exit(alloc, state)?;
         Ok(Value {
             arity: state.arity,
-            masks: Listed::new(masks),
+            diagram,
         })
     }
 
@@ -143,10 +135,10 @@ impl Ground {
         ensures { IfOk result (λ value. value_of value
             ≡ groundness.join (value_of a.now) (value_of b.now)) }
     {
-        let masks = sets::merged(alloc, a.masks.as_slice(), b.masks.as_slice())?;
+        let diagram = a.diagram.or(alloc, &b.diagram)?;
         Ok(Value {
             arity: a.arity,
-            masks: Listed::new(masks),
+            diagram,
         })
     }
 
@@ -156,7 +148,7 @@ impl Ground {
         ensures { IsTrue result
             ↔ groundness.Leq (arity_of (value_of a.now)) (value_of a.now) (value_of b.now) }
     {
-        sets::is_within(a.masks.as_slice(), b.masks.as_slice())
+        a.diagram.implies(&b.diagram)
     }
 
     /// Whether two values are equal.
@@ -171,7 +163,7 @@ impl Ground {
         requires { speaks_within (arity_of (value_of a.now)) prop.now }
         ensures { result ≡ groundness.entails (value_of a.now) prop.now }
     {
-        properties::entails(a.masks.as_slice(), prop, a.arity)
+        properties::entails(a, prop)
     }
 
     /// Whether no tuple that the value describes has the property.
@@ -179,28 +171,27 @@ impl Ground {
         requires { speaks_within (arity_of (value_of a.now)) prop.now }
         ensures { result ≡ groundness.excludes (value_of a.now) prop.now }
     {
-        properties::excludes(a.masks.as_slice(), prop, a.arity)
+        properties::excludes(a, prop)
     }
 
     /// The pattern of the value.
     pub(crate) fn to_abs(&self, alloc: Global, a: &Value) -> Result<Abs, AllocError>
         ensures { IfOk result (λ abs. abs ≡ value_of a.now) }
     {
-        let masks: Vec<Mask> = Vec::from_slice(alloc, a.masks.as_slice())?;
+        let masks = properties::models(alloc, a)?;
         Ok(Abs::Pos(a.arity, Listed::new(masks)))
     }
 
-    /// Appends the text of the value. After want of memory `out` is as before.
+    /// Appends the text of the value's pattern, in time linear in the text. After want of memory `out` is as before.
     pub(crate) fn print(
         &self,
         alloc: Global,
-        a: &Value,
+        value: &Value,
         out: &mut Vec<u8>,
     ) -> Result<(), AllocError>
-        ensures ok { OnOk result (out.new.items ≡ out.old.items ++ pattern_text (value_of a.now)) }
+        ensures ok { OnOk result (out.new.items ≡ out.old.items ++ pattern_text (value_of value.now)) }
         ensures err { OnErr result (out.new.items ≡ out.old.items) }
     {
-        let pattern = self.to_abs(alloc, a)?;
-        print_abs(alloc, &pattern, out)
+        value.diagram.print(alloc, out)
     }
 }

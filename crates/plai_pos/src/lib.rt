@@ -1,17 +1,16 @@
-//! Groundness of arguments, over lists of assignments: the domain of Marriott and Sondergaard 1993, in which a value is
-//! the list of the models of a positive Boolean function.
+//! Groundness of arguments: the domain of Marriott and Sondergaard 1993, in which a value is a positive Boolean function,
+//! kept as a canonical decision diagram (Armstrong, Marriott, Schachte and Sondergaard 1998).
 #![tactic(auto)]
 
 mod domain;
-mod enter;
 mod implementation;
 mod literal;
 mod properties;
 mod refine;
-mod sets;
+mod slots;
 #[cfg(test)]
 mod tests;
-mod truth;
+mod unify;
 mod value;
 
 pub use domain::Ground;

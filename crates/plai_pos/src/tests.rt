@@ -124,14 +124,14 @@ fn open_head(alloc: Global, arity: u32) -> Result<Vec<Term>, AllocError> {
 }
 
 #[test]
-fn sixteen_open_arguments(rt: HostRuntime) -> Result<(), Fail> {
+fn eight_open_arguments(rt: HostRuntime) -> Result<(), Fail> {
     let alloc = rt.alloc();
     let domain = Ground::new();
-    let call = domain.describe(alloc, 16, &[])?;
-    let head = open_head(alloc, 16)?;
-    assert!(&rt; head.len() == 16 && are_below(16, head.as_slice()));
+    let call = domain.describe(alloc, 8, &[])?;
+    let head = open_head(alloc, 8)?;
+    assert!(&rt; head.len() == 8 && are_below(8, head.as_slice()));
     let state = domain
-        .enter(alloc, &call, head.as_slice(), 16)?
+        .enter(alloc, &call, head.as_slice(), 8)?
         .expect(&rt, "a state");
     let exit = domain.exit(alloc, &state, head.as_slice())?;
     let join = domain.join(alloc, &exit, &call)?;

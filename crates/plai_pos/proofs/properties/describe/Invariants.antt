@@ -1,7 +1,8 @@
-use Rattle.std.proofs.Common.{◌≡◌}
-use Rattle.plai_base.specs.Sets.{kept}
-use Rattle.plai_assignments.specs.Assignments.{allows_all}
+use Rattle.std.proofs.Common.{◌≡◌, ◌&&◌, drop}
+use Rattle.plai_bdd.specs.Assignment.{Assignment}
+use Rattle.plai_bdd.specs.Slots.{conjunction}
+use Rattle.plai_pos.specs.Unified.{allowed_all}
 use Rattle.plai_pos.proofs.properties.describe.Given as goal
 
-abbrev pub invariant-loop-bits : goal.invariant-loop-bits
-invariant-loop-bits l = l.masks.items ≡ kept l.bits (allows_all l.properties)
+abbrev pub invariant-loop-property : goal.invariant-loop-property
+invariant-loop-property l = (at : Assignment) → (conjunction l.slots at && allowed_all (drop l.property-index l.properties) at) ≡ allowed_all l.properties at

@@ -1,10 +1,11 @@
-use Rattle.std.proofs.Common.{sym, ◌∙◌, subst}
-use Rattle.plai_assignments.specs.Assignments.{IsPositive}
-use Rattle.plai_assignments.proofs.Properties.{value_describe}
+use Rattle.std.proofs.Common.{ap}
+use Rattle.plai_terms.specs.declared.abs.Abs.TheVariants.{Pos}
 use Rattle.plai_pos.proofs.domain.Ground.describe.Goals as goal
 
 pub invariant_of-result : goal.invariant_of-result
-invariant_of-result c = record {
-  small = c.requires.small;
-  positive = subst (IsPositive c.args.arity) (sym (c.new.ensures ∙ c.in_ok-masks.ensures)) (value_describe c.args.arity c.args.pre.now c.requires.within);
-}
+invariant_of-result c =
+    let d = c.in_ok-diagram.ensures.diagram in
+    record { small = c.requires.small; canonical = d.canonical; over = d.over; top = d.top }
+
+pub returns : goal.returns
+returns c = ap (Pos c.args.arity) c.in_ok-diagram.ensures.models

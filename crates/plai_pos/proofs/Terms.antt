@@ -1,0 +1,131 @@
+-- Terms, their slots, and unification of slots with terms, assignment by assignment.
+use Rattle.std.proofs.Common.{◌≡◌, ℕ, zero, suc, ◌+◌, ◌<◌, ◌≤◌, Bool, true, false, nat_lt, ◌&&◌, bit_or, IsTrue, List, [], ◌∷◌, length, get_or, ◌⊎◌, inl, inr, refl, sym, ap, subst, ◌∙◌, arith, rules}
+use Rattle.std.specs.Bool.{beq}
+use Rattle.std.proofs.lemmas.Bool.{ltb-true, and_parts, and_from}
+use Rattle.plai_base.specs.Mask.{mask_of}
+use Rattle.plai_terms.specs.declared.term.Term.{Term, Var, the_lemmas}
+use Rattle.plai_terms.specs.Term.{has_variables_below}
+use Rattle.plai_domain.specs.Instances.{all_below}
+use Rattle.plai_bdd.specs.declared.node.Node.{Node}
+use Rattle.plai_bdd.specs.Assignment.{Assignment}
+use Rattle.plai_bdd.specs.Slots.{conjunction}
+use Rattle.plai_bdd.specs.Nodes.{IsCanonical, IsFunction, holds as answer}
+use Rattle.plai_assignments.specs.Assignments.{agree}
+use Rattle.plai_assignments.proofs.Holds.{holds-Var, holds_same}
+use Rattle.plai_pos.specs.Unified.{truth, AreUnified, IsUnified}
+use Rattle.plai_pos.proofs.Alike.{TrueAlike}
+use Rattle.plai_pos.proofs.Masks.{conjunction-insert, conjunction-none}
+
+-- ---- variables within their limit
+
+below_var : (limit v : ℕ) → has_variables_below limit (Var v) ≡ nat_lt v limit
+below_var limit v = search (rules, the_lemmas)
+
+pub var_below : (limit v : ℕ) (t : Term) → t ≡ Var v → has_variables_below limit t ≡ true → v < limit
+var_below limit v t e h = ltb-true v limit (sym (ap (has_variables_below limit) e ∙ below_var limit v) ∙ h)
+
+pub below_at : (limit : ℕ) (args : List Term) (j : ℕ) → all_below limit args ≡ true → j < length args → has_variables_below limit (get_or args j (Var 0)) ≡ true
+below_at limit [] j e l = absurd (omega (arith, l))
+below_at limit (t ∷ ts) zero e l = (and_parts (has_variables_below limit t) (all_below limit ts) e).0
+below_at limit (t ∷ ts) (suc j) e l = below_at limit ts j (and_parts (has_variables_below limit t) (all_below limit ts) e).1 (omega (arith, l))
+
+pub get_or_same : (args : List Term) (j : ℕ) (d e : Term) → j < length args → get_or args j d ≡ get_or args j e
+get_or_same [] j d e l = absurd (omega (arith, l))
+get_or_same (t ∷ ts) zero d e l = refl
+get_or_same (t ∷ ts) (suc j) d e l = get_or_same ts j d e (omega (arith, l))
+
+pub term_at : (args : List Term) (j : ℕ) (t : Term) → t ≡ get_or args j t → j < length args → t ≡ get_or args j (Var 0)
+term_at args j t e l = e ∙ get_or_same args j t (Var 0) l
+
+pub term_below : (limit : ℕ) (args : List Term) (j : ℕ) (t : Term) → all_below limit args ≡ true → t ≡ get_or args j t → j < length args → has_variables_below limit t ≡ true
+term_below limit args j t h e l = ap (has_variables_below limit) (term_at args j t e l) ∙ below_at limit args j h l
+
+-- ---- the slots of a term
+
+pub var_added : (slots result n v u : ℕ) (t : Term) → t ≡ Var u → has_variables_below v t ≡ true → n + v ≤ 64 → result ≡ bit_or slots (mask_of (n + u))
+    → (at : Assignment) → conjunction result at ≡ (conjunction slots at && truth n t at)
+var_added slots result n v u t e h room is at =
+    let less : n + u < 64 = omega (arith, var_below v u t e h, room) in
+    ap (λ m. conjunction m at) is ∙ conjunction-insert slots (n + u) at less
+    ∙ ap (λ b. conjunction slots at && b) (sym (ap (λ x. truth n x at) e ∙ holds-Var (λ w. at (n + w)) u))
+
+pub alone : (m : ℕ) (result : ℕ) (n : ℕ) (t : Term) → m ≡ 0 → ((at : Assignment) → conjunction result at ≡ (conjunction m at && truth n t at))
+    → (at : Assignment) → conjunction result at ≡ truth n t at
+alone m result n t e h at = h at ∙ ap (λ b. b && truth n t at) (ap (λ k. conjunction k at) e ∙ conjunction-none at)
+
+-- the truth of a term depends on its variables' slots alone
+pub truth_alike : (n v : ℕ) (t : Term) (at other : Assignment) → has_variables_below v t ≡ true → ((slot : ℕ) → slot < n + v → at slot ≡ other slot)
+    → truth n t at ≡ truth n t other
+truth_alike n v t at other h same = holds_same v (λ w. at (n + w)) (λ w. other (n + w)) (λ w l. same (n + w) (omega (arith, l))) t h
+
+-- ---- equal truths
+
+pub beq_same : (a b : Bool) → beq a b ≡ true → a ≡ b
+beq_same true true e = refl
+beq_same true false e = sym e
+beq_same false true e = e
+beq_same false false e = refl
+
+pub same_beq : (a b : Bool) → a ≡ b → beq a b ≡ true
+same_beq true b e = ap (beq true) (sym e)
+same_beq false b e = ap (beq false) (sym e)
+
+pub beq_agree : (a b : Bool) → beq a b ≡ agree a b
+beq_agree true true = refl
+beq_agree true false = refl
+beq_agree false true = refl
+beq_agree false false = refl
+
+-- ---- one slot after another
+
+pub unified_none : (n first : ℕ) (terms : List Term) (old new : List Node) → new ≡ old → IsCanonical new → IsUnified n first 0 terms old new
+unified_none n first terms old new e c = record {
+  canonical = c;
+  answers = λ at. (λ t. (sym (ap (λ l. answer l at) e) ∙ t, λ j l. absurd (omega (arith, l))), λ p. ap (λ l. answer l at) e ∙ p.0);
+}
+
+last_or : (j i : ℕ) → j < i + 1 → (j < i) ⊎ (j ≡ i)
+last_or j i l = grind arith
+
+module _ (n first i slot : ℕ) (terms : List Term) (t : Term) (old rest new : List Node) (is : slot ≡ first + i) (at_i : t ≡ get_or terms i t) (within : i < length terms)
+    (so_far : IsUnified n first i terms old rest) (made : IsFunction new (λ at. answer rest at && beq (at slot) (truth n t at))) (at : Assignment) where
+  here : truth n t at ≡ truth n (get_or terms i (Var 0)) at
+  here = ap (λ x. truth n x at) (term_at terms i t at_i within)
+
+  down : IsTrue (answer new at) → IsTrue (answer old at) × AreUnified n first (i + 1) terms at
+  down h =
+      let p = and_parts (answer rest at) (beq (at slot) (truth n t at)) (sym (made.answers at) ∙ h) in
+      let q = (so_far.answers at).0 p.0 in
+      let s : at (first + i) ≡ truth n (get_or terms i (Var 0)) at = ap at (sym is) ∙ beq_same (at slot) (truth n t at) p.1 ∙ here in
+      (q.0, λ j l. by j q.1 s (last_or j i l))
+    where
+      by : (j : ℕ) → AreUnified n first i terms at → at (first + i) ≡ truth n (get_or terms i (Var 0)) at → (j < i) ⊎ (j ≡ i) → at (first + j) ≡ truth n (get_or terms j (Var 0)) at
+      by j all s (inl l) = all j l
+      by j all s (inr e) = subst (λ k. at (first + k) ≡ truth n (get_or terms k (Var 0)) at) (sym e) s
+
+  up : IsTrue (answer old at) × AreUnified n first (i + 1) terms at → IsTrue (answer new at)
+  up p =
+      let q : IsTrue (answer rest at) = (so_far.answers at).1 (p.0, λ j l. p.1 j (omega (arith, l))) in
+      let s : at slot ≡ truth n t at = ap at is ∙ p.1 i (omega arith) ∙ sym here in
+      made.answers at ∙ and_from _ _ q (same_beq (at slot) (truth n t at) s)
+
+pub unified_more : (n first i slot : ℕ) (terms : List Term) (t : Term) (old rest new : List Node) → slot ≡ first + i → t ≡ get_or terms i t → i < length terms
+    → IsUnified n first i terms old rest → IsFunction new (λ at. answer rest at && beq (at slot) (truth n t at)) → IsUnified n first (i + 1) terms old new
+unified_more n first i slot terms t old rest new is at_i within so_far made = record {
+  canonical = made.canonical;
+  answers = λ at. (down n first i slot terms t old rest new is at_i within so_far made at, up n first i slot terms t old rest new is at_i within so_far made at);
+}
+
+-- what is unified depends on its slots alone
+pub unified_alike : (n v first count e : ℕ) (terms : List Term) (old new : List Node) → all_below v terms ≡ true → count ≤ length terms → n + v ≤ e → first + count ≤ e
+    → TrueAlike e (answer old) → IsUnified n first count terms old new → TrueAlike e (answer new)
+unified_alike n v first count e terms old new below fits le end a h at other same t =
+    let p = (h.answers at).0 t in
+    (h.answers other).1 (
+      a at other same p.0,
+      λ j l.
+          let inside : first + j < e = omega (arith, l) in
+          let there : j < length terms = omega (arith, l) in
+          sym (same (first + j) inside) ∙ p.1 j l
+          ∙ truth_alike n v (get_or terms j (Var 0)) at other (below_at v terms j below there) (λ slot less. same slot (omega (arith, less))),
+    )
