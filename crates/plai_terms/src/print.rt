@@ -8,7 +8,7 @@ use crate::term::Term;
 use itoa::Buffer;
 use std::alloc::{AllocError, Global};
 
-/// Appends the text of a term: functional notation without spaces, a variable as `_` and its number,
+/// Appends the text of a term of any depth: functional notation without spaces, a variable as `_` and its number,
 /// integers in decimal, and atoms in quotes where they need them (ISO/IEC 13211-1:1995, 7.10.5).
 ///
 /// After want of memory `out` is as before.

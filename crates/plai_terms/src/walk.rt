@@ -51,7 +51,8 @@ impl Term {
         }
     }
 
-    /// The subterms in preorder: the term, and then the subterms of its arguments, from the first.
+    /// The subterms in preorder: the term, and then the subterms of its arguments, from the first. A loop over them,
+    /// or over them from the last, takes the place of a recursion, whose depth would be the term's.
     pub fn nodes(&self, alloc: Global) -> Result<Vec<&Term>, AllocError>
         ensures { IfOk result (λ nodes. referred nodes.items ≡ preorder self.entry.now) }
     {
