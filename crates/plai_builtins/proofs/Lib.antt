@@ -7,6 +7,7 @@ mod Grounded
 mod ListItems
 mod Made
 mod Meant
+mod Occurring
 pub mod Tables
 mod TermKinds
 mod Turns
