@@ -1,3 +1,4 @@
+mod Below
 mod Cells
 mod Copied
 mod Demands
