@@ -16,7 +16,7 @@ count_in ts = length (flat_map preorder ts)
 abbrev pub left_to_go : Term → List Term → ℕ
 left_to_go t ts = (count_in (t ∷ ts)) * (count_in (t ∷ ts)) + length (preorder t)
 
-count_first : (t : Term) (ts : List Term) → count_in (t ∷ ts) ≡ length (preorder t) + count_in ts
+pub count_first : (t : Term) (ts : List Term) → count_in (t ∷ ts) ≡ length (preorder t) + count_in ts
 count_first t ts = length-append (preorder t) (flat_map preorder ts)
 
 count_last : (ts : List Term) (t : Term) → count_in (ts ++ t ∷ []) ≡ count_in ts + length (preorder t)
@@ -24,7 +24,7 @@ count_last ts t =
     ap length (flat_map-append preorder ts (t ∷ [])) ∙ length-append (flat_map preorder ts) (preorder t ++ [])
     ∙ ap (λ us. count_in ts + length us) (append-nil (preorder t))
 
-count_of : (t : Term) → length (preorder t) ≡ 1 + count_in (arguments_of t)
+pub count_of : (t : Term) → length (preorder t) ≡ 1 + count_in (arguments_of t)
 count_of t = let p = ap length (preorder_is t) in omega (arith, p)
 
 pub fewer_in_all : (m n c d : ℕ) → m < n → c ≤ m → m * m + c < n * n + d

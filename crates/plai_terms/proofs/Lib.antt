@@ -1,4 +1,5 @@
 pub mod AtomTexts
+pub mod Contains
 pub mod General
 pub mod GroupOrder
 pub mod Joined
@@ -11,6 +12,7 @@ pub mod Pairs
 pub mod PatternTexts
 pub mod Reading
 pub mod Renewed
+pub mod Pieces
 pub mod RowOrders
 pub mod Same
 pub mod SameNames

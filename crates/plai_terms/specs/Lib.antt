@@ -14,3 +14,4 @@ pub mod Progress
 pub mod Rows
 pub mod Readable
 pub mod Preorder
+pub mod Pieces

@@ -1,7 +1,7 @@
 -- Depth, variables and groundness of terms (ISO/IEC 13211-1:1995, 7.1 and 7.1.1.1).
 use Rattle.std.specs.Prelude.{ℕ, ◌+◌, ◌^◌, ℤ, pos, negsuc, Bool, true, false, nat_eq, nat_lt, max, fold}
 use Rattle.std.specs.List.{list_any, list_all}
-use Rattle.plai_terms.specs.declared.term.Term.{Term, fold-Term}
+use Rattle.plai_terms.specs.declared.term.Term.{Term, fold-Term, out-Term}
 use Rattle.plai_terms.specs.declared.term.Term.TheOpen.{Term-F}
 
 -- a variable, integer or atom is 1 deep
@@ -63,3 +63,11 @@ fits_step (Term-F.Compound _ fits) = list_all (λ b. b) fits
 -- each variable is numbered below 2^32, and each integer has 128 bits
 abbrev pub numbers_fit : Term → Bool
 numbers_fit = fold-Term Bool fits_step
+
+abbrev pub is_variable_at : ℕ → Term-F Term → Bool
+is_variable_at v (Term-F.Var w) = nat_eq v w
+is_variable_at v _ = false
+
+-- the term is the variable
+unfoldable pub is_variable : ℕ → Term → Bool
+is_variable v t = is_variable_at v (out-Term t)

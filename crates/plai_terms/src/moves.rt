@@ -5,6 +5,7 @@ ghost use Rattle.std.specs.Ordering.{int_eq};
 use crate::listed::Listed;
 use crate::name::Name;
 use crate::term::Term;
+use crate::walk::contains;
 use std::alloc::{AllocError, Global};
 
 // What is done with one equation.
@@ -42,7 +43,7 @@ pub(crate) fn pair_up(
 fn bind(alloc: Global, variable: u32, term: &Term) -> Result<Move, AllocError>
     ensures { IfOk result (λ m. m ≡ bind_of variable term.now) }
 {
-    if term.occurs(variable) {
+    if contains(alloc, term, variable)? {
         Ok(Move::Contain)
     } else {
         Ok(Move::Bind(variable, term.copy(alloc)?))

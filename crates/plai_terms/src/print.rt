@@ -1,14 +1,14 @@
-ghost use Rattle.std.specs.Prelude.{◌≡◌, ◌++◌, ◌∷◌, OnOk, OnErr, map, codes, decimal};
+ghost use Rattle.std.specs.Prelude.{◌≡◌, ◌++◌, OnOk, OnErr, codes, decimal, reverse};
 ghost use Rattle.std.specs.Fmt.{signed_decimal};
-ghost use Rattle.std.specs.List.{join_with_byte};
 ghost use Rattle.plai_terms.specs.Print.{text_of};
+ghost use Rattle.plai_terms.specs.Pieces.{behind_head, head_text, listed, part_of, parts_of, parts_behind, written_at};
 
 use crate::atom::write_atom;
 use crate::term::Term;
 use itoa::Buffer;
 use std::alloc::{AllocError, Global};
 
-/// Appends the text of a term: functional notation without spaces, a variable as `_` and its number,
+/// Appends the text of a term of any depth: functional notation without spaces, a variable as `_` and its number,
 /// integers in decimal, and atoms in quotes where they need them (ISO/IEC 13211-1:1995, 7.10.5).
 ///
 /// After want of memory `out` is as before.
@@ -17,13 +17,43 @@ pub fn print_term(alloc: Global, term: &Term, out: &mut Vec<u8>) -> Result<(), A
     ensures err { OnErr result (out.new.items ≡ out.old.items) }
 {
     let mut text = Vec::new(alloc);
-    write_term(term, &mut text)?;
+    write_term(alloc, term, &mut text)?;
     out.extend_from_slice(&text)
 }
 
-#[cycle(write)]
-fn write_term(term: &Term, out: &mut Vec<u8>) -> Result<(), AllocError>
-    ensures { OnOk result (out.new.items ≡ out.old.items ++ text_of term.now) }
+// What is still to be written.
+#[derive(Clone, Copy)]
+enum Piece<'a> {
+    // A byte.
+    Byte(u8),
+    // The text of a term.
+    Whole(&'a Term),
+}
+
+// Pieces that wait, the next one last, get terms behind them, with commas between and a bracket behind.
+fn put_listed<'a>(terms: &'a [Term], waiting: &mut Vec<Piece<'a>>) -> Result<(), AllocError>
+    ensures { OnOk result (reverse (parts_of waiting.new.items) ≡ listed 41 terms.entry.now ++ reverse (parts_of waiting.old.items)) }
+{
+    let mut left = terms;
+    let mut behind = b')';
+    while let Some((last, before)) = left.split_last() {
+        waiting.push(Piece::Byte(behind))?;
+        waiting.push(Piece::Whole(last))?;
+        left = before;
+        behind = b',';
+    }
+    Ok(())
+}
+
+// A variable, an integer or an atom, and of a compound the name and the bracket, with the rest put to the pieces
+// that wait.
+fn write_whole<'a>(
+    term: &'a Term,
+    waiting: &mut Vec<Piece<'a>>,
+    out: &mut Vec<u8>,
+) -> Result<(), AllocError>
+    ensures written { OnOk result (out.new.items ≡ out.old.items ++ head_text term.entry.now) }
+    ensures waiting { OnOk result (reverse (parts_of waiting.new.items) ≡ behind_head term.entry.now ++ reverse (parts_of waiting.old.items)) }
 {
     match term {
         Term::Var(number) => write_variable(*number, out),
@@ -32,22 +62,35 @@ fn write_term(term: &Term, out: &mut Vec<u8>) -> Result<(), AllocError>
         Term::Compound(name, args) => {
             write_atom(name.as_slice(), out)?;
             out.push(b'(')?;
-            write_all(args.as_slice(), out)?;
-            out.push(b')')?;
-            Ok(())
+            put_listed(args.as_slice(), waiting)
         }
     }
 }
 
-#[cycle(write)]
-fn write_all(terms: &[Term], out: &mut Vec<u8>) -> Result<(), AllocError>
-    ensures { OnOk result (out.new.items ≡ out.old.items ++ join_with_byte 44 (map text_of terms.now)) }
+// A piece, of a term what begins it.
+fn write_piece<'a>(
+    piece: Piece<'a>,
+    waiting: &mut Vec<Piece<'a>>,
+    out: &mut Vec<u8>,
+) -> Result<(), AllocError>
+    ensures written { OnOk result (out.new.items ≡ out.old.items ++ written_at (part_of piece.entry)) }
+    ensures waiting { OnOk result (reverse (parts_of waiting.new.items) ≡ parts_behind (part_of piece.entry) ++ reverse (parts_of waiting.old.items)) }
 {
-    for (i, term) in terms.iter().enumerate() {
-        if i > 0 {
-            out.push(b',')?;
+    match piece {
+        Piece::Byte(byte) => {
+            out.push(byte)?;
+            Ok(())
         }
-        write_term(term, out)?;
+        Piece::Whole(term) => write_whole(term, waiting, out),
+    }
+}
+
+fn write_term(alloc: Global, term: &Term, out: &mut Vec<u8>) -> Result<(), AllocError>
+    ensures { OnOk result (out.new.items ≡ out.old.items ++ text_of term.now) }
+{
+    let mut waiting = vec![in alloc; Piece::Whole(term)]?;
+    while let Some(piece) = waiting.pop() {
+        write_piece(piece, &mut waiting, out)?;
     }
     Ok(())
 }

@@ -104,7 +104,7 @@ impl Subst {
         }
     }
 
-    /// The term with each bound variable replaced, all at once.
+    /// The term, of any depth, with each bound variable replaced, all at once.
     pub fn apply(&self, alloc: Global, term: &Term) -> Result<Term, AllocError>
         ensures { IfOk result (λ t. t ≡ apply_of self.now term.now) }
     {

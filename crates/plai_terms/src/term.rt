@@ -13,6 +13,10 @@ pub type Args = NonEmpty<Term>;
 
 /// A term (ISO/IEC 13211-1:1995, 6.1.2 and 7.1). Contracts see it as data, with a name as its bytes and
 /// arguments as a list.
+///
+/// A term may be of any depth: copying, substituting, unifying, printing and letting go of it keep a stack of their
+/// own. `==`, `Hash` and `Debug` call themselves once for each level, and so do `occurs`, `is_ground`,
+/// `has_variables_below` and `depth`: they are for terms that were read, which are 2,000 levels deep at most.
 #[derive(Debug, PartialEq, Eq, Hash)]
 pub enum Term {
     /// A variable, by its number from 0.
@@ -60,7 +64,7 @@ impl Drop for Term {
 }
 
 impl Term {
-    /// An equal term.
+    /// An equal term, of any depth.
     pub fn copy(&self, alloc: Global) -> Result<Term, AllocError>
         ensures { IfOk result (λ t. t ≡ self.now) }
     {
@@ -75,7 +79,7 @@ impl Term {
 }
 
 impl Term {
-    /// Whether the variable occurs in the term.
+    /// Whether the variable occurs in the term. It calls itself once for each level.
     pub fn occurs(&self, variable: u32) -> bool
         ensures { result ≡ occurs variable self.now }
     {
@@ -93,7 +97,7 @@ impl Term {
         }
     }
 
-    /// Whether the term has no variables.
+    /// Whether the term has no variables. It calls itself once for each level.
     pub fn is_ground(&self) -> bool
         ensures { result ≡ is_ground self.now }
     {
@@ -111,7 +115,7 @@ impl Term {
         }
     }
 
-    /// Whether each variable is numbered below `limit`.
+    /// Whether each variable is numbered below `limit`. It calls itself once for each level.
     pub fn has_variables_below(&self, limit: u32) -> bool
         ensures { result ≡ has_variables_below limit self.now }
     {
@@ -130,7 +134,7 @@ impl Term {
     }
 
     /// How deep the term is, or the largest `u32`: a variable, an integer and an atom are 1 deep, and a
-    /// compound is one deeper than its deepest argument.
+    /// compound is one deeper than its deepest argument. It calls itself once for each level.
     pub fn depth(&self) -> u32
         ensures { result ≡ min (depth_of self.now) (2 ^ 32 - 1) }
     {

@@ -151,6 +151,26 @@ fn terms_that_do_not_unify(rt: HostRuntime) -> Result<(), Fail> {
     Ok(())
 }
 
+// f(f(..,b),b), 4,096 levels deep, with the variable 0 in the middle
+fn deep(alloc: Global) -> Result<Term, AllocError> {
+    let mut term = pair(alloc, Term::Var(0), atom(alloc, b"b")?)?;
+    for _ in 0..12 {
+        term = Subst::single(alloc, 0, term.copy(alloc)?)?.apply(alloc, &term)?;
+    }
+    Ok(term)
+}
+
+#[test]
+fn deep_terms_are_walked(rt: HostRuntime) -> Result<(), Fail> {
+    let alloc = rt.alloc();
+    let term = deep(alloc)?;
+    assert_eq!(rt; term.nodes(alloc)?.len(), 8193);
+    assert_eq!(rt; term.arguments().len(), 2);
+    assert!(rt; unification(alloc, Term::Var(1), term.copy(alloc)?)?.len() == 5 * 4096 + 5);
+    assert!(rt; unification(alloc, term, Term::Var(0))?.as_slice() == b"occurs".as_slice());
+    Ok(())
+}
+
 fn masks(alloc: Global, bits: &[u64]) -> Result<Listed<Mask>, AllocError> {
     let mut masks = Vec::new(alloc);
     for mask in bits {

@@ -1,5 +1,6 @@
 // Walks over terms with a stack on the heap, for terms of any depth.
 ghost use Rattle.std.specs.Prelude.{◌≡◌, ◌++◌, IfOk, reverse};
+ghost use Rattle.plai_terms.specs.Term.{is_variable, occurs};
 ghost use Rattle.plai_terms.specs.Preorder.{arguments_of, preorder, referred};
 
 use crate::term::Term;
@@ -17,6 +18,28 @@ fn put_all<'a>(terms: &'a [Term], waiting: &mut Vec<&'a Term>) -> Result<(), All
     Ok(())
 }
 
+fn is_variable(term: &Term, variable: u32) -> bool
+    ensures { result ≡ is_variable variable term.now }
+{
+    match term {
+        Term::Var(number) => variable == *number,
+        _ => false,
+    }
+}
+
+// Whether the variable occurs in a term of any depth.
+pub(crate) fn contains(alloc: Global, term: &Term, variable: u32) -> Result<bool, AllocError>
+    ensures { IfOk result (λ found. found ≡ occurs variable term.now) }
+{
+    let nodes = term.nodes(alloc)?;
+    for node in &nodes {
+        if is_variable(node, variable) {
+            return Ok(true);
+        }
+    }
+    Ok(false)
+}
+
 impl Term {
     /// The arguments of a compound, and of a variable, an integer or an atom none.
     pub fn arguments(&self) -> &[Term]
@@ -28,7 +51,8 @@ impl Term {
         }
     }
 
-    /// The subterms in preorder: the term, and then the subterms of its arguments, from the first.
+    /// The subterms in preorder: the term, and then the subterms of its arguments, from the first. A loop over them,
+    /// or over them from the last, takes the place of a recursion, whose depth would be the term's.
     pub fn nodes(&self, alloc: Global) -> Result<Vec<&Term>, AllocError>
         ensures { IfOk result (λ nodes. referred nodes.items ≡ preorder self.entry.now) }
     {
