@@ -2,14 +2,12 @@
 use Rattle.std.proofs.Common.{◌≡◌, ◌∙◌, ℕ, Bool, true, false, cond, Option, Some, None, List, [], ◌∷◌, ◌++◌, map, append_assoc, refl, sym, ap, rules, codes}
 use Rattle.std.proofs.Common.{Bor}
 use Rattle.std.specs.Prelude.{nat_eq, option_map}
-use Rattle.std.specs.List.{AllByRecursion}
 use Rattle.std.specs.Cmp.Lexicographic.{pointwise}
 use Rattle.plai_terms.proofs.Terms.{induction}
 use Rattle.plai_terms.specs.declared.term.Term.{Term, Var, Int, Atom, Compound, the_lemmas}
-use Rattle.plai_terms.specs.declared.term.Term.TheOpen.{Term-F}
 use Rattle.plai_clauses.specs.ClauseOf.{two, two_arguments}
-use Rattle.plai_builtins.specs.Lists.{with_items, items_step, cell_items, list_items, list_of, is_nil}
-use Rattle.plai_builtins.proofs.ListItems.{with_items-Compound, whole, list_items-Compound}
+use Rattle.plai_builtins.specs.Lists.{with_items, cell_items, list_items, list_of, is_nil}
+use Rattle.plai_builtins.proofs.ListItems.{whole, list_items-Compound}
 
 -- items found before, and then those of the rest, if there are any
 abbrev pub behind : {A : Type 0} → List A → Option (List A) → Option (List A)

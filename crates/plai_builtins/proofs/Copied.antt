@@ -1,88 +1,25 @@
 -- A copy's variables are new, and `copy_term` does what its action allows.
-use Rattle.std.proofs.Common.{◌≡◌, ◌⊎◌, inl, inr, ℕ, suc, ◌<◌, ◌≤◌, Bool, true, false, ◌||◌, not, cond, nat_eq, Option, Some, None, List, [], ◌∷◌, ◌++◌, map, filter, flat_map, refl, sym, ap, subst, ◌∙◌, rules, arith}
+use Rattle.std.proofs.Common.{◌≡◌, inl, inr, ℕ, suc, ◌≤◌, true, false, cond, nat_eq, Some, List, [], ◌∷◌, refl, sym, ap, subst, ◌∙◌, arith}
 use Rattle.std.specs.Prelude.{option_map}
-use Rattle.std.specs.List.{list_any, AllByRecursion}
-use Rattle.std.proofs.lemmas.Bool.{eqb-true, eq-eqb}
+use Rattle.std.proofs.lemmas.Bool.{eqb-true}
 use Rattle.plai_theory.proofs.Options.{by_test}
 use Rattle.plai_base.specs.Mask.{mask_of}
 use Rattle.plai_terms.specs.Term.{occurs}
 use Rattle.plai_terms.specs.Subst.{bound_to}
-use Rattle.plai_terms.specs.declared.term.Term.{Term, Var, Int, Atom, Compound, the_lemmas}
+use Rattle.plai_terms.specs.declared.term.Term.{Term, Var}
 use Rattle.plai_terms.specs.declared.outcome.Outcome.{Outcome}
 use Rattle.plai_terms.specs.declared.outcome.Outcome.TheVariants.{Unified, Clash, Occurs}
 use Rattle.plai_terms.specs.Substitution.{occurs_in, IsLocal}
 use Rattle.plai_terms.specs.Unification.{Bindings, UnifiesTo}
 use Rattle.plai_terms.proofs.Outcomes.{unifier}
-use Rattle.plai_terms.proofs.Terms.{induction}
-use Rattle.plai_terms.proofs.Under.{occurs-Var_same, occurs-args, or_cases, or_first, or_second, or_none, decided, source}
+use Rattle.plai_terms.proofs.Under.{occurs-Var_same, or_cases, or_none, source}
 use Rattle.plai_domain.specs.declared.action.Action.TheVariants as action
-use Rattle.plai_builtins.specs.Copies.{occurrences, each_once, variables_of, renaming, copy_of}
+use Rattle.plai_builtins.specs.Copies.{variables_of, renaming, copy_of}
 use Rattle.plai_builtins.specs.InTurn.{AllowedInTurn}
 use Rattle.plai_builtins.specs.Meaning.{solved, kept_to, SolveWithin, Meets}
 use Rattle.plai_builtins.proofs.Grounded.{in_one}
+use Rattle.plai_builtins.proofs.Occurring.{has, variables_there}
 use Rattle.plai_builtins.proofs.Turns.{last_action}
-
--- the number is in the list
-abbrev pub has : ℕ → List ℕ → Bool
-has v us = list_any (λ u. nat_eq u v) us
-
-pub has_append : (v : ℕ) (us ws : List ℕ) → (has v us ≡ true) ⊎ (has v ws ≡ true) → has v (us ++ ws) ≡ true
-has_append v [] ws (inl e) = absurd cc
-has_append v [] ws (inr e) = e
-has_append v (u ∷ us) ws (inl e) =
-    elim (or_cases (nat_eq u v) (has v us) e) [
-      | inl p ↦ or_first (nat_eq u v) (has v (us ++ ws)) p
-      | inr p ↦ or_second (nat_eq u v) (has v (us ++ ws)) (has_append v us ws (inl p))
-    ]
-has_append v (u ∷ us) ws (inr e) = or_second (nat_eq u v) (has v (us ++ ws)) (has_append v us ws (inr e))
-
-module _ (v : ℕ) where
-  abbrev Stands : Term → Type 0
-  Stands t = occurs v t ≡ true → has v (occurrences t) ≡ true
-
-  all_stand : (args : List Term) → AllByRecursion Stands args → occurs_in v args ≡ true → has v (flat_map (λ part. part) (map occurrences args)) ≡ true
-  all_stand [] h o = absurd cc
-  all_stand (a ∷ args) h o =
-      elim (or_cases (occurs v a) (occurs_in v args) o) [
-        | inl p ↦ has_append v (occurrences a) (flat_map (λ part. part) (map occurrences args)) (inl (h.0 p))
-        | inr p ↦ has_append v (occurrences a) (flat_map (λ part. part) (map occurrences args)) (inr (all_stand args h.1 p))
-      ]
-
-  pub stands : (t : Term) → Stands t
-  stands = induction Stands
-      (λ w o.
-      let is : occurrences (Var w) ≡ w ∷ [] = search (rules, the_lemmas) in
-      ap (has v) is ∙ or_first (nat_eq w v) false (eq-eqb w v (sym (occurs-Var_same v w o))))
-      (λ n o. let no : occurs v (Int n) ≡ false = search (rules, the_lemmas) in absurd cc)
-      (λ a o. let no : occurs v (Atom a) ≡ false = search (rules, the_lemmas) in absurd cc)
-      (λ name args h o.
-      let is : occurrences (Compound name args) ≡ flat_map (λ part. part) (map occurrences args) = search (rules, the_lemmas) in
-      ap (has v) is ∙ all_stand args h (sym (occurs-args v name args) ∙ o))
-
-pub has_filter : (v : ℕ) (p : ℕ → Bool) → p v ≡ true → (us : List ℕ) → has v us ≡ true → has v (filter p us) ≡ true
-has_filter v p pass [] e = absurd cc
-has_filter v p pass (u ∷ us) e =
-    elim (or_cases (nat_eq u v) (has v us) e) [
-      | inl k ↦
-          let test : p u ≡ true = ap p (eqb-true u v k) ∙ pass in
-          rw test (or_first (nat_eq u v) (has v (filter p us)) k)
-      | inr k ↦ put (p u) (has_filter v p pass us k)
-    ]
-  where
-    put : (b : Bool) → has v (filter p us) ≡ true → has v (cond b (u ∷ filter p us) (filter p us)) ≡ true
-    put true e = or_second (nat_eq u v) (has v (filter p us)) e
-    put false e = e
-
-pub has_once : (v : ℕ) (us : List ℕ) → has v us ≡ true → has v (each_once us) ≡ true
-has_once v [] e = absurd cc
-has_once v (u ∷ us) e =
-    by_test (nat_eq u v)
-    (λ k. or_first (nat_eq u v) (has v (filter (λ w. not (nat_eq w u)) (each_once us))) k)
-    (λ k.
-    let there : has v us ≡ true = elim (or_cases (nat_eq u v) (has v us) e) [ inl p ↦ absurd cc | inr p ↦ p ] in
-    let apart : not (nat_eq v u) ≡ true = by_test (nat_eq v u) (λ q. let back = eq-eqb u v (sym (eqb-true v u q)) in absurd cc) (λ q. ap not q) in
-    or_second (nat_eq u v) (has v (filter (λ w. not (nat_eq w u)) (each_once us)))
-    (has_filter v (λ w. not (nat_eq w u)) apart (each_once us) (has_once v us there)))
 
 pub renamed : (v first : ℕ) (us : List ℕ) → has v us ≡ true → (k : ℕ) × (first ≤ k) × (bound_to (renaming first us) v ≡ Var k)
 renamed v first [] e = absurd cc
@@ -98,7 +35,7 @@ renamed v first (u ∷ us) e =
 pub copy_new : (first w : ℕ) (t : Term) → occurs w (copy_of first t) ≡ true → first ≤ w
 copy_new first w t o =
     let (v, i, j) = source (bound_to (renaming first (variables_of t))) w t o in
-    let (k, le, is) = renamed v first (variables_of t) (has_once v (occurrences t) (stands v t i)) in
+    let (k, le, is) = renamed v first (variables_of t) (variables_there v t ∙ i) in
     let same = occurs-Var_same w k (ap (occurs w) (sym is) ∙ j) in
     omega arith
 

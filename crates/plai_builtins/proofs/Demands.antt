@@ -1,5 +1,5 @@
 -- What is asked is met in one way.
-use Rattle.std.proofs.Common.{◌≡◌, ◌∙◌, ℕ, Bool, Option, Some, None, List, [], ◌∷◌, sym, ap, refl}
+use Rattle.std.proofs.Common.{◌≡◌, ◌∙◌, Option, None, List, [], ◌∷◌, sym, ap, refl}
 use Rattle.std.specs.Prelude.{option_map}
 use Rattle.plai_terms.specs.declared.term.Term.{Term}
 use Rattle.plai_terms.specs.declared.outcome.Outcome.{Outcome}

@@ -1,5 +1,5 @@
 -- Bindings of distinct variables.
-use Rattle.std.proofs.Common.{◌≡◌, ◌<◌, ℕ, nat_eq, List, [], map, sym, subst, arith}
+use Rattle.std.proofs.Common.{◌≡◌, nat_eq, [], map, sym, subst, arith}
 use Rattle.std.specs.List.{IsDistinct}
 use Rattle.std.proofs.lemmas.Map.Keys.{IsDistinct-from_apart}
 use Rattle.plai_terms.specs.Unification.{Bindings}

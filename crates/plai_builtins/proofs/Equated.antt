@@ -1,5 +1,5 @@
 -- Builtins that solve equations do what their actions allow.
-use Rattle.std.proofs.Common.{◌≡◌, ◌⊎◌, inl, inr, ℕ, zero, suc, ◌+◌, ◌<◌, ◌≤◌, ℤ, true, false, Option, Some, None, List, [], ◌∷◌, map, length, refl, sym, ap, subst, ◌∙◌, rules, arith}
+use Rattle.std.proofs.Common.{◌≡◌, ◌⊎◌, inl, inr, ℕ, zero, suc, ◌+◌, ◌≤◌, ℤ, true, false, Option, Some, None, List, [], ◌∷◌, refl, sym, ap, subst, ◌∙◌, rules, arith}
 use Rattle.plai_theory.specs.Words.{item}
 use Rattle.plai_base.specs.Mask.{mask_of}
 use Rattle.plai_terms.specs.Term.{is_ground, occurs}
@@ -9,13 +9,11 @@ use Rattle.plai_terms.specs.declared.outcome.Outcome.{Outcome}
 use Rattle.plai_terms.specs.declared.outcome.Outcome.TheVariants.{Unified, Clash, Occurs}
 use Rattle.plai_terms.specs.Substitution.{under, occurs_in, AreBelow}
 use Rattle.plai_terms.specs.Unification.{Bindings, UnifiesTo}
-use Rattle.plai_terms.specs.Unifiers.{IsMostGeneral}
 use Rattle.plai_terms.proofs.Outcomes.{unifier}
 use Rattle.plai_terms.proofs.Under.{occurs-args, occurs-Var_same, or_cases, or_first, or_second, under_Var}
-use Rattle.plai_domain.specs.declared.action.Action.{Action}
 use Rattle.plai_domain.specs.declared.action.Action.TheVariants as action
 use Rattle.plai_builtins.specs.InTurn.{AllowedInTurn}
-use Rattle.plai_builtins.specs.Meaning.{solved, Demand, Solve, Meets, new_variables, nth}
+use Rattle.plai_builtins.specs.Meaning.{solved, Solve, Meets, new_variables, nth}
 use Rattle.plai_builtins.proofs.Grounded.{IsClosed, in_one, grounds_two}
 use Rattle.plai_builtins.proofs.Turns.{AreOf, last_action, idle_action, idle_local, unifier_local}
 

@@ -1,5 +1,5 @@
 -- Unifiers with terms that have no variables.
-use Rattle.std.proofs.Common.{◌≡◌, ◌⊎◌, inl, inr, ℕ, ◌<◌, ℤ, Bool, true, false, cond, List, [], ◌∷◌, map, refl, sym, ap, ◌∙◌, rules, arith}
+use Rattle.std.proofs.Common.{◌≡◌, inl, inr, ℕ, ◌<◌, ℤ, true, false, cond, [], ◌∷◌, sym, ap, ◌∙◌, rules, arith}
 use Rattle.plai_base.specs.Mask.{mask_of}
 use Rattle.plai_terms.specs.Term.{is_ground, occurs}
 use Rattle.plai_terms.specs.Subst.{bound_to}
@@ -8,7 +8,7 @@ use Rattle.plai_terms.specs.Substitution.{under, then_also, occurs_in, IsBelow, 
 use Rattle.plai_terms.specs.Unification.{Bindings}
 use Rattle.plai_terms.specs.Unifiers.{IsMostGeneral}
 use Rattle.plai_terms.proofs.Substs.{apply_of-ground}
-use Rattle.plai_terms.proofs.Under.{under-Var, occurs-Var, occurs-Var_same, or_cases, or_first, or_second, or_none, decided, under_same, under_under, under_Var, source, reaches}
+use Rattle.plai_terms.proofs.Under.{under-Var, occurs-Var_same, or_cases, or_second, or_none, decided, under_same, under_under, under_Var, source, reaches}
 use Rattle.plai_domain.specs.declared.action.Action.TheVariants as action
 use Rattle.plai_builtins.specs.InTurn.{AllowedInTurn}
 use Rattle.plai_builtins.proofs.Turns.{last_action, first_action, idle_local}

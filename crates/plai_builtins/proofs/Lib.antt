@@ -1,3 +1,4 @@
+mod Below
 mod Cells
 mod Copied
 mod Demands
@@ -7,6 +8,7 @@ mod Grounded
 mod ListItems
 mod Made
 mod Meant
+mod Occurring
 pub mod Tables
 mod TermKinds
 mod Turns

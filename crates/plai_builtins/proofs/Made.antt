@@ -1,7 +1,5 @@
 -- Lists of terms that loops make.
-use Rattle.std.proofs.Common.{◌≡◌, ◌∙◌, ℕ, zero, suc, ◌+◌, ◌<◌, List, [], ◌∷◌, ◌++◌, length, take, get_or, map, refl, sym, ap, arith, Bor}
-use Rattle.std.proofs.lemmas.List.{take_more, map-append}
-use Rattle.plai_terms.specs.Preorder.{referred}
+use Rattle.std.proofs.Common.{◌≡◌, ◌∙◌, ℕ, zero, suc, ◌+◌, ◌<◌, List, [], ◌∷◌, ◌++◌, length, get_or, sym, ap, arith}
 use Rattle.plai_terms.specs.declared.term.Term.{Term, Var}
 use Rattle.plai_terms.specs.Term.{occurs}
 use Rattle.plai_terms.specs.Substitution.{occurs_in, AreBelow, IsBelow}

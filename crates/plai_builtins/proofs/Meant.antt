@@ -1,5 +1,5 @@
 -- Each meaning is a composition of what the builtin's actions allow.
-use Rattle.std.proofs.Common.{◌≡◌, ◌∙◌, ◌⊎◌, inl, inr, ℕ, zero, suc, ◌+◌, ◌<◌, ℤ, pos, Bool, true, false, ◌||◌, not, cond, nat_le, Option, Some, None, List, [], ◌∷◌, length, codes, refl, sym, ap, subst, rules, nat_eq}
+use Rattle.std.proofs.Common.{◌≡◌, ◌∙◌, inl, inr, ℕ, zero, suc, ◌+◌, ℤ, pos, Bool, true, false, ◌||◌, not, cond, nat_le, Option, Some, None, List, [], ◌∷◌, length, codes, refl, sym, ap, subst, rules, nat_eq}
 use Rattle.std.specs.Cmp.Lexicographic.{pointwise}
 use Rattle.std.specs.Ordering.{is_eq}
 use Rattle.std.proofs.lemmas.Bool.Decides.{Decides-eqb}
@@ -15,7 +15,7 @@ use Rattle.plai_terms.specs.declared.term.Term.TheVariants.{rolls-Int, rolls-Ato
 use Rattle.plai_terms.specs.declared.outcome.Outcome.{Outcome}
 use Rattle.plai_terms.specs.declared.outcome.Outcome.TheVariants.{Unified, Clash, Occurs}
 use Rattle.plai_terms.specs.Substitution.{under, occurs_in, AreBelow}
-use Rattle.plai_terms.specs.Unification.{Bindings, UnifiesTo}
+use Rattle.plai_terms.specs.Unification.{Bindings}
 use Rattle.plai_terms.proofs.Under.{occurs-args, or_cases, or_first, or_second, under_Var}
 use Rattle.plai_domain.specs.declared.action.Action.{Action}
 use Rattle.plai_domain.specs.declared.action.Action.TheVariants as action
@@ -24,19 +24,19 @@ use Rattle.plai_domain.specs.Instances.{IsInt}
 use Rattle.plai_values.specs.declared.comparison.Comparison.{Comparison}
 use Rattle.plai_values.specs.declared.comparison.Comparison.TheVariants.{Eq, Ne, Lt, Le, Gt, Ge}
 use Rattle.plai_values.specs.Functors.{comparison_named, term_comparison_named}
-use Rattle.plai_values.specs.Values.{value_of, compares}
+use Rattle.plai_values.specs.Values.{value_of}
 use Rattle.plai_values.specs.TermOrder.{term_order, compares_terms}
 use Rattle.plai_values.proofs.OrderLaws.{told_by_order}
 use Rattle.plai_builtins.specs.Actions.{table, actions_of}
 use Rattle.plai_builtins.specs.InTurn.{AllowedInTurn}
 use Rattle.plai_builtins.specs.Lists.{list_of, list_items}
-use Rattle.plai_builtins.specs.Meaning.{Demand, Never, Test, Solve, Apart, SolveWithin, tested, solved, refuted, Meets, is_variable, is_integer, is_atom, is_compound, number_up_to, new_variables, construct, functor_at, nth, arg_at, made_by, made_of, univ_at, compared, is_named, nullary, unary, binary, comparison_or, ternary, demand_of, Means}
+use Rattle.plai_builtins.specs.Meaning.{Demand, Never, Test, Solve, Apart, tested, refuted, Meets, is_variable, is_integer, is_atom, is_compound, number_up_to, new_variables, construct, functor_at, nth, arg_at, made_by, made_of, univ_at, compared, is_named, nullary, unary, binary, ternary, Means}
 use Rattle.plai_builtins.proofs.Copied.{copy_allowed}
-use Rattle.plai_builtins.proofs.Equated.{unified, one_of, itself_of, int_closed, atom_closed, value_allowed, taken_apart, put_together, new_compound, nothing_new, argument_allowed, list_allowed}
+use Rattle.plai_builtins.proofs.Equated.{unified, one_of, int_closed, atom_closed, value_allowed, taken_apart, put_together, new_compound, nothing_new, argument_allowed, list_allowed}
 use Rattle.plai_builtins.proofs.Grounded.{IsClosed}
 use Rattle.plai_builtins.proofs.TermKinds.{variable_is, is_no_variable, integer_is, atomic_ground, compound_no_variable, number_is}
 use Rattle.plai_builtins.proofs.ListItems.{list_of_there, items_there}
-use Rattle.plai_builtins.proofs.Turns.{AreOf, last_action, idle_action, idle_local}
+use Rattle.plai_builtins.proofs.Turns.{last_action, idle_action, idle_local}
 use Rattle.plai_builtins.proofs.Valued.{valued}
 
 abbrev Composed : ℕ → List Action → List Term → Bindings → Type 0

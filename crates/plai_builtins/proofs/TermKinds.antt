@@ -1,10 +1,9 @@
 -- What the tests of a term's kind say of it.
-use Rattle.std.proofs.Common.{◌≡◌, ◌∙◌, ◌⊎◌, inl, inr, ℕ, ℤ, pos, negsuc, Bool, true, false, ◌||◌, not, Option, Some, None, cond, nat_le, refl, sym, ap, subst, rules}
+use Rattle.std.proofs.Common.{◌≡◌, ◌∙◌, ℕ, true, false, ◌||◌, Some, refl, ap, subst, rules}
 use Rattle.plai_terms.specs.Term.{is_ground}
-use Rattle.plai_terms.specs.declared.term.Term.{Term, Var, Int, out-Term, roll-Term, roll-out-Term, the_lemmas}
+use Rattle.plai_terms.specs.declared.term.Term.{Term, Var, out-Term, roll-Term, roll-out-Term, the_lemmas}
 use Rattle.plai_terms.specs.declared.term.Term.TheOpen.{Term-F}
 use Rattle.plai_terms.specs.declared.term.Term.TheVariants.{rolls-Var, rolls-Int}
-use Rattle.plai_terms.proofs.Under.{or_cases}
 use Rattle.plai_domain.specs.Instances.{IsVar, IsInt}
 use Rattle.plai_builtins.specs.Meaning.{is_variable, is_integer, is_atom, is_compound, number_in, number_up_to}
 

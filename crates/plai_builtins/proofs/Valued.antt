@@ -1,8 +1,8 @@
 -- A term with a value has no variables.
-use Rattle.std.proofs.Common.{◌≡◌, ◌∙◌, ℕ, ℤ, true, Option, Some, None, List, [], ◌∷◌, map, refl, sym, ap, rules}
+use Rattle.std.proofs.Common.{◌≡◌, ◌∙◌, ℕ, ℤ, true, Option, Some, None, List, [], ◌∷◌, map, refl, sym, rules}
 use Rattle.std.specs.List.{list_all, AllByRecursion}
 use Rattle.plai_terms.specs.Term.{is_ground}
-use Rattle.plai_terms.specs.declared.term.Term.{Term, Var, Int, Atom, Compound, the_lemmas}
+use Rattle.plai_terms.specs.declared.term.Term.{Term, Var, Compound, the_lemmas}
 use Rattle.plai_terms.proofs.Substs.{is_ground-Compound}
 use Rattle.plai_terms.proofs.Terms.{induction}
 use Rattle.plai_values.specs.Values.{value_of, functor_value}

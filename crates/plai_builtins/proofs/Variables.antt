@@ -1,27 +1,26 @@
 -- The variables of a term, by its subterms in preorder.
-use Rattle.std.proofs.Common.{◌≡◌, ◌⊎◌, inl, inr, ℕ, zero, suc, ◌+◌, ◌<◌, ◌≤◌, Bool, true, false, ◌||◌, not, cond, nat_eq, Some, List, [], ◌∷◌, ◌++◌, map, filter, flat_map, length, take, get_or, refl, sym, ap, subst, ◌∙◌, rules, arith, Bor}
+use Rattle.std.proofs.Common.{◌≡◌, inl, inr, ℕ, suc, ◌+◌, ◌<◌, ◌≤◌, Bool, true, false, ◌||◌, not, cond, nat_eq, Some, List, [], ◌∷◌, ◌++◌, map, filter, flat_map, length, take, get_or, refl, sym, ap, subst, ◌∙◌, rules, arith, Bor}
 use Rattle.std.specs.List.{list_any, AllByRecursion, IsDistinct}
-use Rattle.std.proofs.lemmas.Bool.{eqb-true, eq-eqb}
 use Rattle.std.proofs.lemmas.Grind.{flat_map-append}
 use Rattle.std.proofs.lemmas.List.{append-nil, map-append, take_more, length-take-le}
 use Rattle.std.proofs.lemmas.Map.Steps.{length-le_from_distinct_below}
 use Rattle.std.proofs.lemmas.List.Elements.{filter-append}
 use Rattle.plai_theory.proofs.Options.{by_test}
-use Rattle.plai_terms.specs.Term.{is_ground, occurs}
-use Rattle.plai_terms.specs.Preorder.{preorder, arguments_of, referred}
+use Rattle.plai_terms.specs.Term.{occurs}
+use Rattle.plai_terms.specs.Preorder.{preorder, referred}
 use Rattle.plai_terms.specs.Subst.{restricted_to}
-use Rattle.plai_terms.specs.Substitution.{occurs_in, IsBelow}
+use Rattle.plai_terms.specs.Substitution.{IsBelow}
 use Rattle.plai_terms.specs.declared.outcome.Outcome.{Outcome}
 use Rattle.plai_terms.specs.declared.outcome.Outcome.TheVariants.{Unified}
 use Rattle.plai_terms.specs.Unification.{Bindings, UnifiesTo}
-use Rattle.plai_terms.specs.declared.term.Term.{Term, Var, Int, Atom, Compound, out-Term, the_lemmas}
+use Rattle.plai_terms.specs.declared.term.Term.{Term, Var, Compound, out-Term, the_lemmas}
 use Rattle.plai_terms.specs.declared.term.Term.TheOpen.{Term-F}
 use Rattle.plai_terms.proofs.Terms.{induction}
-use Rattle.plai_terms.proofs.Preorder.{preorder_is, arguments_of-Var, arguments_of-Int, arguments_of-Atom, arguments_of-Compound}
-use Rattle.plai_terms.proofs.Under.{or_cases, or_first, or_second, occurs-Var, occurs-args}
+use Rattle.plai_terms.proofs.Preorder.{preorder_is, arguments_of-Compound}
+use Rattle.plai_terms.proofs.Under.{or_cases, or_first, or_second}
 use Rattle.plai_builtins.specs.Copies.{occurrences, each_once, with_new, noted_in, noted, variables_of, renaming}
 use Rattle.plai_builtins.specs.Meaning.{kept_to, SolveWithin, Meets}
-use Rattle.plai_builtins.proofs.Copied.{has}
+use Rattle.plai_builtins.proofs.Occurring.{has, turned, has_filter-pass, other_than, variables_there}
 
 -- the variable that a term is, if it is one
 abbrev pub own_in : Term-F Term → List ℕ
@@ -54,70 +53,6 @@ occurrences_owned = induction IsOwned
     is ∙ all_owned args h
     ∙ sym (ap (flat_map own) (preorder_is (Compound name args) ∙ ap (λ us. Compound name args ∷ flat_map preorder us) (arguments_of-Compound name args))
     ∙ ap (λ vs. vs ++ flat_map own (flat_map preorder args)) none))
-
--- a test of a variable's number on the one side and on the other
-turned : (u v : ℕ) → nat_eq u v ≡ nat_eq v u
-turned u v =
-    by_test (nat_eq u v)
-    (λ e. e ∙ sym (eq-eqb v u (sym (eqb-true u v e))))
-    (λ e. by_test (nat_eq v u) (λ k. let back = eq-eqb u v (sym (eqb-true v u k)) in cc) (λ k. e ∙ sym k))
-
-has-append : (v : ℕ) (us ws : List ℕ) → has v (us ++ ws) ≡ (has v us || has v ws)
-has-append v [] ws = refl
-has-append v (u ∷ us) ws = by_test (nat_eq u v) (λ k. rw k refl) (λ k. rw k (has-append v us ws))
-
-module _ (v : ℕ) where
-  abbrev IsThere : Term → Type 0
-  IsThere t = has v (occurrences t) ≡ occurs v t
-
-  all_there : (args : List Term) → AllByRecursion IsThere args → has v (flat_map (λ part. part) (map occurrences args)) ≡ occurs_in v args
-  all_there [] h = refl
-  all_there (a ∷ args) h =
-      has-append v (occurrences a) (flat_map (λ part. part) (map occurrences args))
-      ∙ ap (λ b. b || has v (flat_map (λ part. part) (map occurrences args))) h.0 ∙ ap (λ b. occurs v a || b) (all_there args h.1)
-
-  single : (b : Bool) → (b || false) ≡ b
-  single true = refl
-  single false = refl
-
-  there : (t : Term) → IsThere t
-  there = induction IsThere
-      (λ w.
-      let is : occurrences (Var w) ≡ w ∷ [] = search (rules, the_lemmas) in
-      ap (has v) is ∙ single (nat_eq w v) ∙ turned w v ∙ sym (occurs-Var v w))
-      (λ n. search (rules, the_lemmas))
-      (λ a. search (rules, the_lemmas))
-      (λ name args h.
-      let is : occurrences (Compound name args) ≡ flat_map (λ part. part) (map occurrences args) = search (rules, the_lemmas) in
-      ap (has v) is ∙ all_there args h ∙ sym (occurs-args v name args))
-
--- what a filter leaves
-has_filter-pass : (v : ℕ) (p : ℕ → Bool) (us : List ℕ) → p v ≡ true → has v (filter p us) ≡ has v us
-has_filter-pass v p [] pass = refl
-has_filter-pass v p (u ∷ us) pass =
-    by_test (nat_eq u v)
-    (λ k. let test : p u ≡ true = ap p (eqb-true u v k) ∙ pass in rw (test, k) refl)
-    (λ k. rw k (left (p u) k ∙ has_filter-pass v p us pass))
-  where
-    left : (b : Bool) → nat_eq u v ≡ false → has v (cond b (u ∷ filter p us) (filter p us)) ≡ has v (filter p us)
-    left true k = rw k refl
-    left false k = refl
-
-abbrev other_than : ℕ → ℕ → Bool
-other_than u w = not (nat_eq w u)
-
--- what stands once
-once_has : (v : ℕ) (us : List ℕ) → has v (each_once us) ≡ has v us
-once_has v [] = refl
-once_has v (u ∷ us) =
-    by_test (nat_eq u v)
-    (λ k. rw k refl)
-    (λ k.
-    let pass : other_than u v ≡ true = ap not (turned v u ∙ k) in
-    rw k (has_filter-pass v (other_than u) (each_once us) pass ∙ once_has v us))
-
-pub variables_there : (v : ℕ) (t : Term) → has v (variables_of t) ≡ occurs v t
-variables_there v t = once_has v (occurrences t) ∙ there v t
 
 -- one more at the end
 dropped : (u v : ℕ) (us : List ℕ) → nat_eq u v ≡ true → filter (other_than u) (with_new us v) ≡ filter (other_than u) us

@@ -1,4 +1,4 @@
-//! The builtin predicates: what they do to a state.
+//! The builtin predicates: what they do to a state, and what they mean.
 #![tactic(auto)]
 
 mod actions;
@@ -13,3 +13,6 @@ mod lists;
 pub use actions::{Actions, actions_of, table};
 pub use concrete::meaning;
 pub use laws::{meanings_are_allowed, table_laws};
+
+#[cfg(test)]
+mod tests;

@@ -1,6 +1,5 @@
 use Rattle.std.proofs.Common.{◌≡◌, ◌∙◌, ◌≤◌, length, nat_eq, sym, ap, subst, arith}
 use Rattle.std.specs.List.{IsDistinct}
-use Rattle.plai_terms.specs.Term.{occurs}
 use Rattle.plai_builtins.specs.Copies.{occurrences, variables_of}
 use Rattle.plai_builtins.proofs.Variables.{once_distinct, few_variables}
 use Rattle.plai_builtins.proofs.copies.copy.Goals as goal

@@ -1,4 +1,4 @@
-use Rattle.std.proofs.Common.{◌≡◌, ◌∙◌, take, flat_map, sym, ap}
+use Rattle.std.proofs.Common.{◌∙◌, flat_map, sym, ap}
 use Rattle.std.proofs.lemmas.List.{take_all}
 use Rattle.plai_terms.specs.Preorder.{referred}
 use Rattle.plai_builtins.specs.Copies.{each_once}
