@@ -15,10 +15,10 @@ holds-Var truth v = search (rules, the_lemmas)
 pub holds-Compound : (truth : ℕ → Bool) (name : List ℕ) (args : List Term) → holds truth (Compound name args) ≡ list_all (λ b. b) (map (holds truth) args)
 holds-Compound truth name args = search (rules, the_lemmas)
 
-below-Var : (limit v : ℕ) → has_variables_below limit (Var v) ≡ nat_lt v limit
+pub below-Var : (limit v : ℕ) → has_variables_below limit (Var v) ≡ nat_lt v limit
 below-Var limit v = search (rules, the_lemmas)
 
-below-Compound : (limit : ℕ) (name : List ℕ) (args : List Term) → has_variables_below limit (Compound name args) ≡ list_all (λ b. b) (map (has_variables_below limit) args)
+pub below-Compound : (limit : ℕ) (name : List ℕ) (args : List Term) → has_variables_below limit (Compound name args) ≡ list_all (λ b. b) (map (has_variables_below limit) args)
 below-Compound limit name args = search (rules, the_lemmas)
 
 module _ (limit : ℕ) (f g : ℕ → Bool) (same : (v : ℕ) → v < limit → f v ≡ g v) where

@@ -13,3 +13,4 @@ pub mod Sound
 pub mod Soundness
 pub mod Lawful
 pub mod Printed
+pub mod Acts

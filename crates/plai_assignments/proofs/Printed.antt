@@ -1,10 +1,10 @@
 -- What the text of a value of groundness tells.
-use Rattle.std.proofs.Common.{◌≡◌, ℕ, ◌≤◌, refl, sym, ap, ◌∙◌, subst, arith}
+use Rattle.std.proofs.Common.{◌≡◌, ℕ, refl, sym, ap, ◌∙◌, subst, arith}
 use Rattle.plai_terms.specs.declared.abs.Abs.{Abs}
 use Rattle.plai_terms.specs.declared.abs.Abs.TheVariants.{Nothing, Pos}
 use Rattle.plai_terms.specs.Pattern as text
 use Rattle.plai_terms.proofs.PatternTexts.{patterns_differ}
-use Rattle.plai_domain.specs.Conditions.{most_arguments, IsValue}
+use Rattle.plai_domain.specs.Conditions.{IsValue}
 use Rattle.plai_domain.specs.Printed.{IsPrinted}
 use Rattle.plai_assignments.specs.Groundness.{masks_of, groundness}
 

@@ -19,7 +19,7 @@ use Rattle.plai_assignments.proofs.Direct.{same_agree, call_in, first_in, enter_
 
 -- ---- instances
 
-bound_numbered : (i j : ℕ) (ts : List Term) → j < length ts → bound_to (numbered i ts) (i + j) ≡ get_or ts j (Var 0)
+pub bound_numbered : (i j : ℕ) (ts : List Term) → j < length ts → bound_to (numbered i ts) (i + j) ≡ get_or ts j (Var 0)
 bound_numbered i j [] l = absurd (omega (arith, l))
 bound_numbered i zero (t ∷ ts) l = let e : nat_eq i (i + 0) ≡ true = eq-eqb i (i + 0) (omega arith) in rw e refl
 bound_numbered i (suc j) (t ∷ ts) l =

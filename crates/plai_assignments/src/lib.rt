@@ -8,7 +8,7 @@ ghost use Rattle.plai_terms.specs.Subst.{apply_of};
 ghost use Rattle.plai_domain.specs.declared.action.Action.{Action};
 ghost use Rattle.plai_domain.specs.Plain.{StateView};
 ghost use Rattle.plai_domain.specs.Laws.{IsLawful};
-ghost use Rattle.plai_domain.specs.Soundness.{TellsTruly};
+ghost use Rattle.plai_domain.specs.Soundness.{TellsTruly, ActsTruly};
 ghost use Rattle.plai_domain.specs.Instances.{all_below, instance_of, acts_within, allows_at};
 ghost use Rattle.plai_assignments.specs.Groundness.{groundness};
 
@@ -19,11 +19,13 @@ pub fn groundness_is_lawful()
 {}
 
 /// What is described stays described: by each value above, by the value of the properties, and by what each operation
-/// gives. What is entailed holds, and what is excluded doesn't. A substitution is a list of bindings; an instance of a
-/// clause is given by the arguments `hs` of its head and the terms `ts` of its variables. An operation may be followed
-/// by any substitution that makes the answer describe the literal's arguments, or that the action allows.
+/// gives. What is entailed holds, and what is excluded doesn't. `tells_truly` and `acts_truly` are what every domain owes,
+/// where a substitution is a function. The other clauses say more of groundness, where it is any list of bindings: an
+/// instance of a clause is given by the arguments `hs` of its head and the terms `ts` of its variables, and an operation
+/// may be followed by any substitution that makes the answer describe the literal's arguments, or that the action allows.
 pub fn groundness_is_sound()
     ensures tells_truly { TellsTruly groundness }
+    ensures acts_truly { ActsTruly groundness }
 
     ensures enter { (call : Abs) (head goal ts : List Term) (r : List (ℕ × Term))
         → length head ≡ length goal → all_below (length ts) head ≡ true

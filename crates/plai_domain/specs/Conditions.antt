@@ -31,6 +31,10 @@ pub record AreArguments (n v : ℕ) (args : List Term) : Type 0 where
 abbrev pub IsValue : PlainDomain → ℕ → Abs → Type 0
 IsValue p n a = p.Leq n a a
 
+-- a value of a predicate's arguments
+abbrev pub IsSmallValue : PlainDomain → Abs → Type 0
+IsSmallValue p a = (n : ℕ) × (n ≤ most_arguments) × IsValue p n a
+
 -- a state of a clause of as many arguments and variables as it says
 abbrev pub IsState : PlainDomain → StateView → Type 0
 IsState p s = p.Below s.arity s.variables s s

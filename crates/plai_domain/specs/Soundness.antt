@@ -67,3 +67,8 @@ pub record ActsTruly (p : PlainDomain) : Type 0 where
   -- the answer describes the head's arguments
   pub exit : (head : List Term) (variables : ℕ) (st : StateView) (i : ℕ → Term) → IsHead (length head) variables head
       → Speaks p head variables st i → p.describes (p.exit st head) (map (under i) head)
+
+-- what every domain owes of soundness
+pub record IsSound (p : PlainDomain) : Type 0 where
+  pub tells_truly : TellsTruly p
+  pub acts_truly : ActsTruly p

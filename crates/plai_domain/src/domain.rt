@@ -1,11 +1,13 @@
-ghost use Rattle.std.specs.Prelude.{◌≡◌, ◌↔◌, ◌+◌, ◌≤◌, ℕ, All, IsTrue, true, IfOk, length};
+ghost use Rattle.std.specs.Prelude.{◌≡◌, ◌↔◌, ◌+◌, ◌++◌, ◌≤◌, ℕ, All, IsTrue, true, IfOk, OnOk, OnErr, length};
 ghost use Rattle.std.specs.Option.{option_map};
 ghost use Rattle.plai_terms.specs.declared.abs.Abs.{Abs};
+ghost use Rattle.plai_terms.specs.Pattern.{pattern_text};
 ghost use Rattle.plai_domain.specs.Plain.{StateView, PlainDomain};
 ghost use Rattle.plai_domain.specs.Instances.{speaks_within, acts_within};
-ghost use Rattle.plai_domain.specs.Conditions.{most_arguments, IsHead, AreArguments, IsValue, IsState, AreAlike, SpeaksOf};
+ghost use Rattle.plai_domain.specs.Conditions.{most_arguments, IsHead, AreArguments, IsValue, IsSmallValue, IsState, AreAlike, SpeaksOf};
 ghost use Rattle.plai_domain.specs.Outcomes.{IsOutcome};
 ghost use Rattle.plai_domain.specs.Laws.{IsLawful};
+ghost use Rattle.plai_domain.specs.Soundness.{IsSound};
 ghost use Rattle.plai_domain.specs.Printed.{IsPrinted};
 
 use crate::action::Action;
@@ -157,11 +159,22 @@ pub trait Domain: Drop {
     fn to_abs(&self, alloc: Global, a: &Self::Value) -> Result<Abs, AllocError>
         ensures { IfOk result (λ abs. abs ≡ value_of a.now) };
 
+    /// Appends the text of the value's pattern, as `print_abs` writes it. The value has at most 16 arguments.
+    ///
+    /// After want of memory `out` is as before.
+    fn print(&self, alloc: Global, a: &Self::Value, out: &mut Vec<u8>) -> Result<(), AllocError>
+        requires { IsSmallValue (plain self.now) (value_of a.now) }
+        ensures ok { OnOk result (out.new.items ≡ out.old.items ++ pattern_text (value_of a.now)) }
+        ensures err { OnErr result (out.new.items ≡ out.old.items) };
+
     /// `==` is equality of what contracts see.
     ghost equal: { (a b : Self.Value) → (Self.Value.eq a b ≡ true) ↔ (value_of a ≡ value_of b) };
 
     /// The laws of an abstract domain.
     ghost lawful: { (domain : Self) → IsLawful (plain domain) };
+
+    /// What is described goes on to be described, by the properties and by each operation.
+    ghost sound: { (domain : Self) → IsSound (plain domain) };
 
     /// A value's text tells which value it is.
     ghost printed: { (domain : Self) → IsPrinted (plain domain) };

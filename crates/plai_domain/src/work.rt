@@ -1,4 +1,4 @@
-ghost use Rattle.std.specs.Prelude.{◌≡◌, Bool, false, List, None, IfOk, IsOk, OnOk, OnErr};
+ghost use Rattle.std.specs.Prelude.{◌≡◌, ◌↔◌, Bool, false, List, None, IsSome, IsTrue, IfOk, IsOk, OnOk, OnErr};
 ghost use Rattle.std.specs.declared.option.Option.{Option};
 ghost use Rattle.plai_domain.specs.declared.work.WorkEntry.{WorkEntry};
 ghost use Rattle.plai_domain.specs.Noted.{noted};
@@ -48,6 +48,10 @@ pub trait Work {
     /// Whether a note may want memory.
     ghost takes_memory: { Self → Bool };
 
+    /// Whether what is noted is told. Where it isn't, nothing need be noted. It takes no memory.
+    fn keeps(&self) -> bool
+        ensures { IsTrue result ↔ IsSome (entries self.now) };
+
     /// Notes an entry, or leaves what was noted as before for want of memory.
     fn note(&mut self, alloc: Global, entry: &WorkEntry) -> Result<(), AllocError>
         ensures ok { OnOk result (entries self.new ≡ noted entry.now (entries self.old)) }
@@ -70,6 +74,10 @@ impl Work for Tally {
     ghost entries = { λ _. None };
 
     ghost takes_memory = { λ _. false };
+
+    fn keeps(&self) -> bool {
+        false
+    }
 
     fn note(&mut self, _alloc: Global, _entry: &WorkEntry) -> Result<(), AllocError> {
         Ok(())

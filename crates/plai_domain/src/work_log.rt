@@ -46,6 +46,10 @@ impl Work for WorkLog {
 
     ghost takes_memory = { λ _. true };
 
+    fn keeps(&self) -> bool {
+        true
+    }
+
     fn note(&mut self, alloc: Global, entry: &WorkEntry) -> Result<(), AllocError> {
         self.kept.push(entry.copy(alloc)?)?;
         Ok(())

@@ -10,6 +10,7 @@ impl Domain for Ground {
     ghost use Rattle.std.specs.Prelude.{refl};
     ghost use Rattle.plai_assignments.specs.Groundness.{groundness};
     ghost use Rattle.plai_assignments.proofs.Lawful.{groundness_lawful};
+    ghost use Rattle.plai_assignments.proofs.Acts.{groundness_sound};
     ghost use Rattle.plai_assignments.proofs.Printed.{groundness_printed};
     ghost use Rattle.plai_pos.specs.Values.{value_of as pattern_of, state_of as view_of};
     ghost use Rattle.plai_pos.specs.Equality.{same_value};
@@ -27,6 +28,8 @@ impl Domain for Ground {
     ghost equal = { λ a b. same_value a b _ refl };
 
     ghost lawful = { λ _. groundness_lawful };
+
+    ghost sound = { λ _. groundness_sound };
 
     ghost printed = { λ _. groundness_printed };
 
@@ -121,5 +124,9 @@ impl Domain for Ground {
 
     fn to_abs(&self, alloc: Global, a: &Value) -> Result<Abs, AllocError> {
         Ground::to_abs(self, alloc, a)
+    }
+
+    fn print(&self, alloc: Global, a: &Value, out: &mut Vec<u8>) -> Result<(), AllocError> {
+        Ground::print(self, alloc, a, out)
     }
 }

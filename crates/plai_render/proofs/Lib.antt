@@ -1,4 +1,5 @@
 pub mod Apart
+pub mod Lifted
 pub mod Moves
 pub mod NameTexts
 pub mod Ordered

@@ -1,3 +1,4 @@
 pub mod Block
 pub mod Order
 pub mod Stopped
+pub mod Texts

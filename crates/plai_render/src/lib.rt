@@ -6,12 +6,14 @@ mod keyed;
 mod laws;
 mod order;
 mod stopped;
+mod text_row;
 
-pub use block::render_table;
+pub use block::{render_table, render_texts};
 pub use laws::{distinct_names_are_apart, names_have_different_texts};
-pub use order::sort_rows;
+pub use order::{sort_rows, sort_texts};
 pub use plai_terms::PlainRow;
 pub use stopped::render_stopped;
+pub use text_row::TextRow;
 
 #[cfg(test)]
 mod tests;

@@ -1,22 +1,15 @@
-ghost use Rattle.std.specs.Prelude.{◌≡◌, ◌+◌, ◌≤◌, [], ◌++◌, map, reverse, vec_len, vec_capacity, All, IsPermutation, IfOk, OnOk};
-ghost use Rattle.plai_terms.specs.Pattern.{pattern_text};
+ghost use Rattle.std.specs.Prelude.{◌≡◌, ◌+◌, ◌≤◌, [], ◌++◌, map, reverse, vec_len, vec_capacity, All, List, IsPermutation, OnOk};
+ghost use Rattle.plai_terms.specs.declared.plain_row.PlainRow.{PlainRow};
 ghost use Rattle.plai_terms.specs.Rows.{AreInOrder};
 ghost use Rattle.plai_render.specs.Order.{AreWeaklyInOrder, AreApart, IsNarrow};
+ghost use Rattle.plai_render.specs.Texts.{AreTextsOf, AreTextsInOrder};
 
 use crate::keyed::Keyed;
-use plai_terms::{PlainRow, print_abs};
+use crate::text_row::TextRow;
+use plai_terms::PlainRow;
 use std::alloc::{AllocError, Global};
 
-fn call_text(alloc: Global, row: &PlainRow) -> Result<Vec<u8>, AllocError>
-    requires { IsNarrow row.now }
-    ensures { IfOk result (λ text. text.items ≡ pattern_text row.now.name.call) }
-{
-    let mut text = Vec::new(alloc);
-    print_abs(alloc, &row.name.call, &mut text)?;
-    Ok(text)
-}
-
-// Moves the rows to another list, the last one first, each with the text of its call. After want of memory those that
+// Moves the rows to another list, the last one first, each with its text. After want of memory those that
 // are left stay.
 fn key_all(
     alloc: Global,
@@ -31,7 +24,7 @@ fn key_all(
     ensures back { vec_len keyed.new + vec_len rows.new ≤ vec_capacity rows.new }
 {
     while let Some(row) = rows.pop() {
-        match call_text(alloc, &row) {
+        match TextRow::of(alloc, &row) {
             Ok(text) => keyed.push_reserved(Keyed { row, text }),
             Err(fail) => {
                 rows.push_reserved(row);
@@ -66,8 +59,16 @@ pub fn sort_rows(alloc: Global, rows: &mut Vec<PlainRow>) -> Result<(), AllocErr
 {
     let mut keyed = Vec::with_capacity(alloc, rows.len())?;
     let printed = key_all(alloc, rows, &mut keyed);
-    keyed.sort_unstable();
+    keyed.sort_unstable_by(|a, b| a.text.order(&b.text));
     give_back(&mut keyed, rows);
     rows.reverse();
     printed
+}
+
+/// Puts rows that are given as text into the order of a table, as [`sort_rows`] puts rows. It takes no memory.
+pub fn sort_texts(rows: &mut Vec<TextRow>)
+    ensures permutation { IsPermutation rows.old.items rows.new.items }
+    ensures in_order { (table : List PlainRow) → AreTextsOf table rows.old.items → AreTextsInOrder table rows.new.items }
+{
+    rows.sort_unstable_by(|a, b| a.order(b));
 }

@@ -3,8 +3,8 @@ ghost use Rattle.plai_terms.specs.Pattern.{arity_of};
 ghost use Rattle.plai_render.specs.Order.{IsNarrow};
 
 use crate::{
-    PlainRow, distinct_names_are_apart, names_have_different_texts, render_stopped, render_table,
-    sort_rows,
+    PlainRow, TextRow, distinct_names_are_apart, names_have_different_texts, render_stopped,
+    render_table, render_texts, sort_rows, sort_texts,
 };
 use plai_base::Mask;
 use plai_terms::{Abs, Listed, Name, PredKey, RowName};
@@ -76,6 +76,39 @@ fn rows_are_sorted(rt: HostRuntime) -> Result<(), Fail> {
     render_table(alloc, 7, &rows, &mut out)?;
     let printed = b"edit 7
 row k:'='/1 call t answer none
+row m:p/1 call t answer (1 t f)
+row m:u/1 call (1 t f) answer none
+row m:u/1 call t answer f
+end
+";
+    assert_eq!(rt; out.as_slice(), printed.as_slice());
+    Ok(())
+}
+
+fn text(alloc: Global, name: &[u8], call: &[u8], answer: &[u8]) -> Result<TextRow, AllocError> {
+    let pred = PredKey {
+        module: Name::new(Vec::from_slice(alloc, b"m")?),
+        name: Name::new(Vec::from_slice(alloc, name)?),
+        arity: 1,
+    };
+    Ok(TextRow {
+        pred,
+        call: Listed::new(Vec::from_slice(alloc, call)?),
+        answer: Listed::new(Vec::from_slice(alloc, answer)?),
+    })
+}
+
+#[test]
+fn texts_are_sorted(rt: HostRuntime) -> Result<(), Fail> {
+    let alloc = rt.alloc();
+    let mut rows = Vec::new(alloc);
+    rows.push(text(alloc, b"u", b"t", b"f")?)?;
+    rows.push(text(alloc, b"p", b"t", b"(1 t f)")?)?;
+    rows.push(text(alloc, b"u", b"(1 t f)", b"none")?)?;
+    sort_texts(&mut rows);
+    let mut out = Vec::new(alloc);
+    render_texts(alloc, 3, &rows, &mut out)?;
+    let printed = b"edit 3
 row m:p/1 call t answer (1 t f)
 row m:u/1 call (1 t f) answer none
 row m:u/1 call t answer f

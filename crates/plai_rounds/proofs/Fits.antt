@@ -1,5 +1,6 @@
 -- What rounds make are values, and so is what is evaluated under it.
-use Rattle.std.proofs.Common.{List}
+use Rattle.std.proofs.Common.{◌≡◌, ℕ, ◌≤◌, List, Option, Some, None, IfSome, sym}
+use Rattle.std.specs.Option.{option_map}
 use Rattle.plai_theory.specs.Words.{IsIn, UpTo}
 use Rattle.plai_theory.specs.Domain.{Domain, Program, IsLawful}
 use Rattle.plai_theory.specs.Evaluation.{answer_of}
@@ -10,7 +11,9 @@ use Rattle.plai_theory.specs.Rounds.{IsMade}
 use Rattle.plai_theory.proofs.Stages.{left_at}
 use Rattle.plai_theory.proofs.Near.{near_value, answer_low}
 use Rattle.plai_theory.proofs.Rounds.{AllLow, made_low, from_below, below_at}
+use Rattle.plai_terms.specs.declared.abs.Abs.{Abs}
 use Rattle.plai_domain.specs.Plain.{PlainDomain}
+use Rattle.plai_domain.specs.Conditions.{most_arguments, IsValue, IsSmallValue}
 use Rattle.plai_domain.specs.Laws as domain
 use Rattle.plai_clauses.specs.Program.{ProgramView}
 use Rattle.plai_clauses.specs.WellFormed.{IsWellFormed}
@@ -45,3 +48,9 @@ module _ (p : PlainDomain) (laws : domain.IsLawful p) (program : ProgramView) (g
         same_up_to (p.Leq name.pred.arity) (answers_of p rows name) answer
         (source_fits (as_domain p) (as_program p program) (lawful_at p laws program good) rows made name.pred name.call) told;
   }
+
+-- an answer that is a value of few arguments
+pub small_answer : {B : Type 0} (p : PlainDomain) (n : ℕ) → n ≤ most_arguments → (seen : B → Abs) (result : Option B) (o : Option Abs) → option_map seen result ≡ o
+    → ((a : Abs) → o ≡ Some a → IsValue p n a) → IfSome result (λ value. IsSmallValue p (seen value))
+small_answer p n few seen None o e fit = tt
+small_answer p n few seen (Some b) o e fit = (n, few, fit (seen b) (sym e))

@@ -4,7 +4,7 @@ use Rattle.std.specs.List.{AllByRecursion}
 use Rattle.std.specs.List.Sorted.{IsPermutation}
 use Rattle.std.proofs.lemmas.List.{take_more}
 use Rattle.std.proofs.lemmas.List.Elements.{recursion_from_All}
-use Rattle.std.proofs.lemmas.List.Sorted.{Contains-permutation, IsPermutation-sym, length_permutation}
+use Rattle.std.proofs.lemmas.List.Sorted.{All-permutation, Contains-permutation, IsPermutation-sym, length_permutation}
 use Rattle.plai_theory.specs.Words.{IsIn, UpTo, AreDistinct}
 use Rattle.plai_theory.specs.Domain.{Name}
 use Rattle.plai_theory.specs.LeastTable.{Row, IsOrdered}
@@ -28,10 +28,13 @@ use Rattle.plai_eval.specs.Meaning.{row_name, as_domain, as_program}
 use Rattle.plai_eval.specs.LeastTable.{answer_in, row_of, before, IsLeastTable}
 use Rattle.plai_eval.proofs.Closed.{all_in, same_up_to}
 use Rattle.plai_eval.proofs.Lawful.{lawful_at}
+use Rattle.plai_render.specs.declared.text_row.TextRow.{TextRow}
 use Rattle.plai_render.specs.Order.{AreApart, IsNarrow}
+use Rattle.plai_render.specs.Texts.{text_of, AreTextsOf, AreTextsInOrder}
 use Rattle.plai_rounds.specs.Names.{answers_of}
 use Rattle.plai_rounds.specs.Output.{plain_at, plain_rows}
 use Rattle.plai_rounds.specs.Reaching.{IsReaching, IsDone, HasAllCalls}
+use Rattle.plai_rounds.specs.Table.{IsTextTable}
 use Rattle.plai_rounds.proofs.Lists.{in_map, map_push, length_map}
 use Rattle.plai_rounds.proofs.Fits.{source_fits}
 use Rattle.plai_rounds.proofs.Narrow.{reached_narrow}
@@ -44,12 +47,18 @@ read_of [] i x e = cc
 read_of (y ∷ xs) zero x e = let same : y ≡ x = cc in (omega arith, same)
 read_of (y ∷ xs) (suc i) x e = let (h, f) = read_of xs i x e in (omega arith, f)
 
-pub rows_more : (p : PlainDomain) (rows : List (Row (as_domain p))) (names : List (Name PredKey Abs)) (i : ℕ) (x : Name PredKey Abs) (items : List PlainRow) (row : PlainRow)
-    → slice_get names i ≡ Some x → items ≡ plain_rows p rows (take i names) → row ≡ plain_at p rows x → items ++ row ∷ [] ≡ plain_rows p rows (take (i + 1) names)
-rows_more p rows names i x items row at so_far is =
+pub texts_more : (p : PlainDomain) (rows : List (Row (as_domain p))) (names : List (Name PredKey Abs)) (i : ℕ) (x : Name PredKey Abs) (texts new : List TextRow) (text : TextRow)
+    → slice_get names i ≡ Some x → AreTextsOf (plain_rows p rows (take i names)) texts → text ≡ text_of (plain_at p rows x)
+    → new ≡ texts ++ text ∷ [] → AreTextsOf (plain_rows p rows (take (i + 1) names)) new
+texts_more p rows names i x texts new text at so_far is pushed =
     let (h, e) = read_of names i x at in
-    ap (λ xs. xs ++ row ∷ []) so_far ∙ ap (λ r. plain_rows p rows (take i names) ++ r ∷ []) is
-    ∙ sym (map_push (plain_at p rows) (take i names) x) ∙ ap (plain_rows p rows) (ap (λ y. take i names ++ y ∷ []) (sym e) ∙ sym (take_more names i x h))
+    let next : take (i + 1) names ≡ take i names ++ x ∷ [] = take_more names i x h ∙ ap (λ y. take i names ++ y ∷ []) e in
+    ap (λ l. map text_of (plain_rows p rows l)) next
+    ∙ ap (map text_of) (map_push (plain_at p rows) (take i names) x)
+    ∙ map_push text_of (plain_rows p rows (take i names)) (plain_at p rows x)
+    ∙ ap (λ l. l ++ text_of (plain_at p rows x) ∷ []) so_far
+    ∙ ap (λ t. texts ++ t ∷ []) (sym is)
+    ∙ sym pushed
 
 -- members after a sort
 in_contains : {A : Type 0} (x : A) (xs : List A) → IsIn x xs → Contains xs x
@@ -94,7 +103,7 @@ ordered p (r ∷ rows) h = (
 
 module _ (p : PlainDomain) (laws : IsLawful p) (printed : IsPrinted p) (program : ProgramView) (good : IsWellFormed program) (limit : ℕ) (rows : List (Row (as_domain p)))
     (done : IsDone p program limit rows) where
-  few_arguments : (x : Name PredKey Abs) → IsReached p laws program good limit rows done x → x.pred.arity ≤ 16
+  pub few_arguments : (x : Name PredKey Abs) → IsReached p laws program good limit rows done x → x.pred.arity ≤ 16
   few_arguments x (k, r) = reached_narrow p (source_of (as_domain p) rows) program good r
 
   answer_fits : (x : Name PredKey Abs) → UpTo (p.Leq x.pred.arity) (answers_of p rows (row_name x)) (answers_of p rows (row_name x))
@@ -113,10 +122,10 @@ module _ (p : PlainDomain) (laws : IsLawful p) (printed : IsPrinted p) (program 
       let c : x.call ≡ y.call = printed.apart x.pred.arity x.call y.call (few_arguments x r) (reached_call p laws program good limit rows done x r) v text in
       λ i. record { pred = same i; call = c i }
 
-  pub rows_narrow : (names : List (Name PredKey Abs)) → ((x : Name PredKey Abs) → IsIn x names → IsReached p laws program good limit rows done x) → All IsNarrow (plain_rows p rows names)
+  rows_narrow : (names : List (Name PredKey Abs)) → ((x : Name PredKey Abs) → IsIn x names → IsReached p laws program good limit rows done x) → All IsNarrow (plain_rows p rows names)
   rows_narrow names h = all_in IsNarrow (plain_rows p rows names) (λ row i. map_in IsNarrow (plain_at p rows) names row i (λ x j. row_narrow x (h x j)))
 
-  pub rows_apart : (names : List (Name PredKey Abs)) → AreDistinct names → ((x : Name PredKey Abs) → IsIn x names → IsReached p laws program good limit rows done x) → AreApart (plain_rows p rows names)
+  rows_apart : (names : List (Name PredKey Abs)) → AreDistinct names → ((x : Name PredKey Abs) → IsIn x names → IsReached p laws program good limit rows done x) → AreApart (plain_rows p rows names)
   rows_apart [] d h = tt
   rows_apart (x ∷ names) d h = (
     all_in (λ later. HaveSameText (row_name x) later.name → ⊥) (plain_rows p rows names)
@@ -140,7 +149,7 @@ module _ (p : PlainDomain) (laws : IsLawful p) (printed : IsPrinted p) (program 
     )
 
     -- Theorem: the rows in order are the least table.
-    pub least : (sorted : List PlainRow) → IsPermutation (plain_rows p rows names) sorted → AreInOrder sorted → IsLeastTable p program sorted
+    least : (sorted : List PlainRow) → IsPermutation (plain_rows p rows names) sorted → AreInOrder sorted → IsLeastTable p program sorted
     least sorted moved in_order =
         let back : IsPermutation sorted (plain_rows p rows names) = IsPermutation-sym (plain_rows p rows names) sorted moved in
         rounds_least (as_domain p) (as_program p program) (lawful_at p laws program good) (before p) rows done.making.made
@@ -159,9 +168,19 @@ module _ (p : PlainDomain) (laws : IsLawful p) (printed : IsPrinted p) (program 
           );
         })
 
-    pub table_within : (sorted : List PlainRow) → IsPermutation (plain_rows p rows names) sorted → length sorted ≤ limit
+    table_within : (sorted : List PlainRow) → IsPermutation (plain_rows p rows names) sorted → length sorted ≤ limit
     table_within sorted moved =
         let k : length sorted ≡ length (plain_rows p rows names) = length_permutation (plain_rows p rows names) sorted moved in
         let l : length (plain_rows p rows names) ≡ length names = length_map (plain_at p rows) names in
         let few : length names ≤ limit = reaching.few in
         omega arith
+
+    -- the texts in order are those of the least table
+    pub text_table : (texts : List TextRow) → AreTextsInOrder (plain_rows p rows names) texts → IsTextTable p program limit texts
+    text_table texts sorted = record {
+      rows = sorted.rows;
+      least = least sorted.rows sorted.permutation (sorted.in_order (rows_apart names reaching.distinct reaching.reached));
+      narrow = All-permutation IsNarrow (plain_rows p rows names) sorted.rows sorted.permutation (rows_narrow names reaching.reached);
+      within = table_within sorted.rows sorted.permutation;
+      are_texts = sorted.are_texts;
+    }

@@ -6,3 +6,4 @@ pub mod Making
 pub mod Reaching
 pub mod Causes
 pub mod Output
+pub mod Table

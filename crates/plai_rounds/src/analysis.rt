@@ -1,23 +1,21 @@
-ghost use Rattle.std.specs.Prelude.{◌≤◌, All, length, IfOk, IfErr, OnOk};
-ghost use Rattle.plai_eval.specs.LeastTable.{IsLeastTable};
+ghost use Rattle.std.specs.Prelude.{IfOk, IfErr, OnOk};
 ghost use Rattle.plai_eval.specs.Stops.{IsOver};
-ghost use Rattle.plai_render.specs.Order.{IsNarrow};
 ghost use Rattle.plai_rounds.specs.Causes.{HasCause};
+ghost use Rattle.plai_rounds.specs.Table.{IsTextTable};
 
 use crate::analyse_fail::AnalyseFail;
-use crate::output::plain_table;
+use crate::output::text_table;
 use crate::reach::{begin, reach};
 use crate::rounds::settle;
 use crate::task::Task;
 use plai_base::Steps;
 use plai_clauses::Program;
 use plai_domain::{Domain, Work};
-use plai_render::sort_rows;
-use plai_terms::PlainRow;
+use plai_render::{TextRow, sort_texts};
 use std::alloc::Global;
 use std::sync::ledger::Ledger;
 
-/// The least table of the program under the domain, in the order of a table (Muthukumar and Hermenegildo 1992).
+/// The least table of the program under the domain, as text, in the order of a table (Muthukumar and Hermenegildo 1992).
 ///
 /// `Rows` names the limit, and comes only where more names than the limit lie at or below names of the least table, each of
 /// the same predicate; so a table has at most as many rows as the limit says. `Groups` comes only where an evaluation of
@@ -29,10 +27,8 @@ pub fn analyse<D: Domain, W: Work, L: Ledger>(
     limit: u64,
     work: &mut W,
     steps: &mut Steps<L>,
-) -> Result<Vec<PlainRow>, AnalyseFail>
-    ensures table { IfOk result (λ table. IsLeastTable (D.plain domain.now) program.now table.items) }
-    ensures narrow { IfOk result (λ table. All IsNarrow table.items) }
-    ensures within { IfOk result (λ table. length table.items ≤ limit) }
+) -> Result<Vec<TextRow>, AnalyseFail>
+    ensures table { IfOk result (λ table. IsTextTable (D.plain domain.now) program.now limit table.items) }
     ensures not_over { OnOk result (¬ IsOver (D.plain domain.now) program.now) }
     ensures causes { IfErr result (HasCause (D.plain domain.now) program.now limit) }
 {
@@ -46,7 +42,7 @@ pub fn analyse<D: Domain, W: Work, L: Ledger>(
     let mut rows = begin(&task)?;
     settle(&task, &mut rows, work, steps)?;
     let reached = reach(&task, &rows, work, steps)?;
-    let mut table = plain_table(&task, &rows, &reached)?;
-    sort_rows(alloc, &mut table)?;
+    let mut table = text_table(&task, &rows, &reached)?;
+    sort_texts(&mut table);
     Ok(table)
 }

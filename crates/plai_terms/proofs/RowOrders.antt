@@ -13,7 +13,7 @@ use Rattle.plai_terms.specs.RowOrder.{text_order, pred_order, name_order, IsBefo
 use Rattle.plai_terms.proofs.GroupOrder.{texts_tie}
 use Rattle.plai_terms.proofs.Sorted.{by_ordering}
 
-pred_total : IsTotalOrder pred_order
+pub pred_total : IsTotalOrder pred_order
 pred_total = then_total (on_total (λ (p : PredKey). p.module) nat_list_cmp_total) (then_total (on_total (λ (p : PredKey). p.name) nat_list_cmp_total) (on_total (λ (p : PredKey). p.arity) nat_cmp_total))
 
 pub name_total : IsTotalOrder name_order

@@ -1,5 +1,5 @@
 -- From what the analysis answers to its outcomes; and no evaluation under groundness forms sets of groups.
-use Rattle.std.proofs.Common.{◌≡◌, ◌≤◌, ◌⊎◌, ℕ, List, [], ◌∷◌, None, Some, Ok, Err, Option, Result, IfOk, length, sym, ap, ◌∙◌, subst, inl, inr}
+use Rattle.std.proofs.Common.{◌≡◌, ◌⊎◌, ℕ, List, [], ◌∷◌, None, Some, Ok, Err, Option, Result, IfOk, sym, ◌∙◌, subst, inl, inr}
 use Rattle.std.proofs.lemmas.Bool.{false≢true}
 use Rattle.plai_theory.specs.Words.{HasSome}
 use Rattle.plai_theory.specs.Domain.{Step, Goal, Do}
@@ -12,20 +12,22 @@ use Rattle.plai_domain.specs.Plain.{StateView}
 use Rattle.plai_assignments.specs.Groundness.{groundness}
 use Rattle.plai_clauses.specs.declared.clause.Clause.{Clause}
 use Rattle.plai_clauses.specs.Program.{ProgramView}
-use Rattle.plai_eval.specs.LeastTable.{IsLeastTable}
 use Rattle.plai_eval.specs.Meaning.{Calling, Acting, as_domain, as_limits, as_program}
 use Rattle.plai_eval.specs.Stops.{IsOver}
+use Rattle.plai_render.specs.declared.text_row.TextRow.{TextRow}
+use Rattle.plai_render.specs.Texts.{AreTextsOf}
 use Rattle.plai_rounds.specs.Causes.{AreTooMany}
+use Rattle.plai_rounds.specs.Table.{IsTextTable}
 use Rattle.plai_top.specs.Outcome.{done, stopped_at, IsAnalysed, table, stopped}
 use Rattle.plai_top.specs.Outputs.{outcome_of}
 use Rattle.plai_top.specs.declared.output.Output.{Output}
 use Rattle.plai_top.specs.declared.stop.Stop.{Stop}
 
-pub table_analysed : (program : ProgramView) (limit : ℕ) (rows seen : List PlainRow) (result : Result Output Stop) → IsLeastTable groundness program rows
-    → length rows ≤ limit → seen ≡ rows → IfOk result (λ output. outcome_of output ≡ done seen) → IfOk result (λ output. IsAnalysed program limit (outcome_of output))
-table_analysed program limit rows seen (Err stop) least within same made = tt
-table_analysed program limit rows seen (Ok output) least within same made =
-    subst (IsAnalysed program limit) (sym (made ∙ ap done same)) (table rows least within)
+pub table_analysed : (program : ProgramView) (limit : ℕ) (texts seen : List TextRow) (result : Result Output Stop) → IsTextTable groundness program limit texts → seen ≡ texts
+    → IfOk result (λ output. (table : List PlainRow) → AreTextsOf table seen → outcome_of output ≡ done table) → IfOk result (λ output. IsAnalysed program limit (outcome_of output))
+table_analysed program limit texts seen (Err stop) given same made = tt
+table_analysed program limit texts seen (Ok output) given same made =
+    subst (IsAnalysed program limit) (sym (made given.rows (given.are_texts ∙ sym same))) (table given.rows given.least given.within)
 
 pub stop_analysed : (program : ProgramView) (limit : ℕ) (result : Result Output Stop) → AreTooMany groundness program limit
     → IfOk result (λ output. outcome_of output ≡ stopped_at limit) → IfOk result (λ output. IsAnalysed program limit (outcome_of output))

@@ -1,6 +1,7 @@
 // The analysis of a program under groundness, and its block.
-ghost use Rattle.std.specs.Prelude.{◌≡◌, All, IfOk, IfErr};
-ghost use Rattle.plai_render.specs.Order.{IsNarrow};
+ghost use Rattle.std.specs.Prelude.{◌≡◌, List, IfOk, IfErr};
+ghost use Rattle.plai_terms.specs.declared.plain_row.PlainRow.{PlainRow};
+ghost use Rattle.plai_render.specs.Texts.{AreTextsOf};
 ghost use Rattle.plai_top.specs.Outcome.{IsAnalysed, done, stopped_at};
 ghost use Rattle.plai_top.specs.Outputs.{outcome_of};
 
@@ -10,19 +11,18 @@ use plai_base::Steps;
 use plai_clauses::Program;
 use plai_domain::Work;
 use plai_pos::Ground;
-use plai_render::{PlainRow, render_stopped, render_table};
+use plai_render::{TextRow, render_stopped, render_texts};
 use plai_rounds::{AnalyseFail, analyse};
 use std::alloc::Global;
 use std::sync::ledger::Ledger;
 
-/// The block of a table.
-fn table(alloc: Global, rows: &[PlainRow]) -> Result<Output, Stop>
-    requires { All IsNarrow rows.now }
-    ensures outcome { IfOk result (λ output. outcome_of output ≡ done rows.now) }
+/// The block of a table that is given as text.
+fn table(alloc: Global, rows: &[TextRow]) -> Result<Output, Stop>
+    ensures outcome { IfOk result (λ output. (table : List PlainRow) → AreTextsOf table rows.now → outcome_of output ≡ done table) }
     ensures stop { IfErr result (λ stop. stop ≡ Stop.Memory) }
 {
     let mut bytes = Vec::new(alloc);
-    match render_table(alloc, 0, rows, &mut bytes) {
+    match render_texts(alloc, 0, rows, &mut bytes) {
         Ok(()) => Ok(Output { status: 0, bytes }),
         Err(_) => Err(Stop::Memory),
     }

@@ -1,14 +1,11 @@
-use Rattle.plai_assignments.proofs.Soundness.{larger_describes, describe_describes, entailed_holds, excluded_fails, enter_describes, call_describes, back_describes, refine_describes, exit_describes}
+use Rattle.plai_assignments.proofs.Acts.{groundness_sound}
+use Rattle.plai_assignments.proofs.Soundness.{enter_describes, call_describes, back_describes, refine_describes, exit_describes}
 use Rattle.plai_assignments.proofs.groundness_is_sound.Goals as goal
 
 pub returns : goal.returns
 returns c = record {
-  tells_truly = record {
-    larger = λ n a b. larger_describes;
-    describe = describe_describes;
-    entails = entailed_holds;
-    excludes = excluded_fails;
-  };
+  tells_truly = groundness_sound.tells_truly;
+  acts_truly = groundness_sound.acts_truly;
   enter = enter_describes;
   call = λ s hs ts args d. call_describes s hs ts d args;
   back = λ s hs ts args r answer d below. back_describes s hs ts d args below r answer;

@@ -3,7 +3,7 @@ use Rattle.plai_top.proofs.analysis.analysed.Goals as goal
 
 pub returns-in-Ok-clause-outcome : goal.returns-in-Ok-clause-outcome
 returns-in-Ok-clause-outcome g c =
-    table_analysed c.args.program.now c.args.limit c.in-Ok.rows.items _ _ c.in-Ok.ensures.table c.in-Ok.ensures.within c.as_slice.ensures.value c.table.ensures.outcome
+    table_analysed c.args.program.now c.args.limit c.in-Ok.rows.items _ _ c.in-Ok.ensures.table c.as_slice.ensures.value c.table.ensures.outcome
 
 pub returns-in-Err-Rows-clause-outcome : goal.returns-in-Err-Rows-clause-outcome
 returns-in-Err-Rows-clause-outcome g c =
