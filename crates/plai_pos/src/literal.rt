@@ -1,12 +1,13 @@
-ghost use Rattle.std.specs.Prelude.{◌≡◌, ◌+◌, ◌≤◌, true, length, IfOk};
+ghost use Rattle.std.specs.Prelude.{◌≡◌, ◌+◌, ◌≤◌, ◌<◌, true, length, IfOk};
 ghost use Rattle.plai_domain.specs.Instances.{all_below};
 ghost use Rattle.plai_assignments.specs.Assignments.{enter_of, call_of, back_of, exit_of};
 ghost use Rattle.plai_pos.specs.Values.{models_of, IsDiagramOf};
-ghost use Rattle.plai_pos.specs.Unified.{IsUnified};
+ghost use Rattle.plai_pos.specs.Unified.{IsIntroduced, IsSubstituted};
 
-use crate::slots::slots_from;
+use crate::slots::{slots_from, slots_of, unused};
 use crate::unify::unify_all;
 use crate::value::{State, Value};
+use plai_base::Mask;
 use plai_bdd::Bdd;
 use plai_terms::Term;
 use std::alloc::{AllocError, Global};
@@ -27,24 +28,27 @@ pub(crate) fn enter(
     unify_all(alloc, &call.diagram, 0, head, call.arity, variables)
 }
 
-/// What is known of the clause's slots and, behind them, of a literal's arguments.
-fn with_literal(alloc: Global, state: &State, args: &[Term]) -> Result<Bdd, AllocError>
-    requires slots { state.now.arity + state.now.variables + length args.now ≤ 64 }
-    requires below { all_below state.now.variables args.now ≡ true }
-    ensures { IfOk result (λ b. IsUnified state.now.arity (state.now.arity + state.now.variables) (length args.now)
-        args.now state.now.diagram b) }
+/// The function without the slots that neither a literal's first argument nor those behind it have, where the first
+/// argument's slot is true exactly where all variables of the argument are.
+fn introduce(
+    alloc: Global,
+    rest: &Bdd,
+    slot: u32,
+    slots: &[Mask],
+    end: u32,
+) -> Result<Bdd, AllocError>
+    requires some { 0 < length slots.now }
+    requires room { slot < 64 }
+    requires end { end ≤ 64 }
+    ensures { IfOk result (λ b. IsIntroduced slot slots.now end rest.now b) }
 {
-    unify_all(
-        alloc,
-        &state.diagram,
-        state.end(),
-        args,
-        state.arity,
-        state.variables,
-    )
+    let needed = rest.exists(alloc, unused(slots, end))?;
+    let equivalence = Bdd::iff_all(alloc, slot, slots[0])?;
+    needed.and(alloc, &equivalence)
 }
 
-/// What is known of a literal's arguments.
+/// What is known of a literal's arguments. Each argument's slot is introduced in turn, and the clause's slots go as soon
+/// as no later argument has them, since the function is small then.
 pub(crate) fn call(alloc: Global, state: &State, args: &[Term]) -> Result<Bdd, AllocError>
     requires slots { state.now.arity + state.now.variables + length args.now ≤ 64 }
     requires below { all_below state.now.variables args.now ≡ true }
@@ -53,12 +57,27 @@ pub(crate) fn call(alloc: Global, state: &State, args: &[Term]) -> Result<Bdd, A
         (models_of (state.now.arity + state.now.variables) state.now.diagram)) b) }
 {
     let end = state.end();
-    let widened = with_literal(alloc, state, args)?;
-    let projected = widened.exists(alloc, slots_from(0, end))?;
+    let slots = slots_of(alloc, args, state.arity, state.variables)?;
+    let mut rest = state.diagram.copy(alloc)?;
+    for place in 0..slots.len() {
+        rest = introduce(alloc, &rest, end + place as u32, &slots[place..], end)?;
+    }
+    let projected = rest.exists(alloc, slots_from(0, end))?;
     projected.shift_down(alloc, end)
 }
 
-/// What is known of the clause's slots behind a literal with this answer.
+/// The function where the slot's place is taken by what all slots of the set give.
+fn substitute(alloc: Global, rest: &Bdd, slot: u32, all: Mask) -> Result<Bdd, AllocError>
+    requires { slot < 64 }
+    ensures { IfOk result (λ b. IsSubstituted slot all rest.now b) }
+{
+    let equivalence = Bdd::iff_all(alloc, slot, all)?;
+    let both = rest.and(alloc, &equivalence)?;
+    both.exists(alloc, Mask::of(slot))
+}
+
+/// What is known of the clause's slots behind a literal with this answer: the state, and the answer with what is known of
+/// the arguments' variables in place of the arguments.
 pub(crate) fn back(
     alloc: Global,
     state: &State,
@@ -73,10 +92,12 @@ pub(crate) fn back(
         (models_of (state.now.arity + state.now.variables) state.now.diagram)) b) }
 {
     let end = state.end();
-    let widened = with_literal(alloc, state, args)?;
-    let raised = answer.diagram.shift_up(alloc, end)?;
-    let both = widened.and(alloc, &raised)?;
-    both.exists(alloc, slots_from(end, end + answer.arity))
+    let slots = slots_of(alloc, args, state.arity, state.variables)?;
+    let mut rest = answer.diagram.shift_up(alloc, end)?;
+    for (place, all) in slots.as_slice().iter().enumerate() {
+        rest = substitute(alloc, &rest, end + place as u32, *all)?;
+    }
+    state.diagram.and(alloc, &rest)
 }
 
 /// What is known of the head's arguments.

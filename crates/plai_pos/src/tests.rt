@@ -1,4 +1,4 @@
-ghost use Rattle.std.specs.Prelude.{◌≡◌};
+ghost use Rattle.std.specs.Prelude.{◌≡◌, ◌<◌};
 ghost use Rattle.plai_domain.specs.Instances.{all_below};
 
 use crate::{Ground, State, Value};
@@ -124,19 +124,66 @@ fn open_head(alloc: Global, arity: u32) -> Result<Vec<Term>, AllocError> {
 }
 
 #[test]
-fn eight_open_arguments(rt: HostRuntime) -> Result<(), Fail> {
+fn sixteen_open_arguments(rt: HostRuntime) -> Result<(), Fail> {
     let alloc = rt.alloc();
     let domain = Ground::new();
-    let call = domain.describe(alloc, 8, &[])?;
-    let head = open_head(alloc, 8)?;
-    assert!(&rt; head.len() == 8 && are_below(8, head.as_slice()));
+    let call = domain.describe(alloc, 16, &[])?;
+    let head = open_head(alloc, 16)?;
+    assert!(&rt; head.len() == 16 && are_below(16, head.as_slice()));
     let state = domain
-        .enter(alloc, &call, head.as_slice(), 8)?
+        .enter(alloc, &call, head.as_slice(), 16)?
         .expect(&rt, "a state");
     let exit = domain.exit(alloc, &state, head.as_slice())?;
     let join = domain.join(alloc, &exit, &call)?;
     assert!(&rt; domain.same(&join, &call) && domain.leq(&join, &call));
     let called = domain.call(alloc, &state, head.as_slice())?;
     assert!(&rt; domain.same(&called, &call));
+    Ok(())
+}
+
+/// The compound `f(A1, ..)` of so many variables.
+fn f_of_variables(alloc: Global, count: u32) -> Result<Term, AllocError>
+    requires { 0 < count }
+{
+    let bytes = Vec::from_slice(alloc, b"f")?;
+    let mut args = open_head(alloc, count - 1)?;
+    args.push(Term::Var(count - 1))?;
+    Ok(Term::Compound(Name::new(bytes), Args::new(args)))
+}
+
+#[test]
+fn thirty_variables_in_one_argument(rt: HostRuntime) -> Result<(), Fail> {
+    let alloc = rt.alloc();
+    let domain = Ground::new();
+    let open = domain.describe(alloc, 1, &[])?;
+    let ground = domain.describe(alloc, 1, &[Prop::Ground(1)])?;
+    let args = vec![in alloc; f_of_variables(alloc, 30)?]?;
+    assert!(&rt; args.len() == 1 && are_below(30, args.as_slice()));
+    let state = domain
+        .enter(alloc, &open, args.as_slice(), 30)?
+        .expect(&rt, "a state");
+    let called = domain.call(alloc, &state, args.as_slice())?;
+    assert!(&rt; domain.same(&called, &open));
+    let state = domain
+        .back(alloc, &state, args.as_slice(), &ground)?
+        .expect(&rt, "a state");
+    let exit = domain.exit(alloc, &state, args.as_slice())?;
+    assert!(&rt; domain.same(&exit, &ground));
+    Ok(())
+}
+
+#[test]
+fn values_are_printed(rt: HostRuntime) -> Result<(), Fail> {
+    let alloc = rt.alloc();
+    let domain = Ground::new();
+    let mut text = Vec::new(alloc);
+    domain.print(alloc, &domain.describe(alloc, 2, &[])?, &mut text)?;
+    text.push(b' ')?;
+    domain.print(
+        alloc,
+        &domain.describe(alloc, 2, &[Prop::Ground(2)])?,
+        &mut text,
+    )?;
+    assert_eq!(&rt; text.as_slice(), b"t (2 t f)".as_slice());
     Ok(())
 }
