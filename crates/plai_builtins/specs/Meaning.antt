@@ -16,24 +16,30 @@ use Rattle.plai_values.specs.TermOrder.{compares_terms}
 use Rattle.plai_builtins.specs.Lists.{list_of, list_items}
 use Rattle.plai_builtins.specs.Copies.{copy_of}
 
--- what is asked: what never holds, a test, that terms unify in turn with others, that two terms don't unify, and that two terms
--- unify, where the variables of the first alone are bound
+-- what is asked
 pub data Demand : Type 0 where
+  -- what never holds
   Never : Demand
+  -- a test
   Test : Bool → Demand
+  -- the first terms unify with the second, in turn
   Solve : List Term → List Term → Demand
+  -- the terms don't unify
   Apart : Term → Term → Demand
+  -- the first term unifies with the second, and only variables of the first are bound
   SolveWithin : Term → Term → Demand
 
--- the bindings of a test, of an outcome, of one that is to fail
+-- a test that holds binds nothing
 abbrev pub tested : Bool → Option Bindings
 tested b = if b then Some [] else None
 
+-- unification gives its bindings, or fails
 abbrev pub solved : Outcome → Option Bindings
 solved (Unified s) = Some s
 solved Clash = None
 solved Occurs = None
 
+-- where it is to fail, nothing is bound
 abbrev pub refuted : Outcome → Option Bindings
 refuted (Unified s) = None
 refuted Clash = Some []
@@ -43,7 +49,7 @@ refuted Occurs = Some []
 abbrev pub kept_to : Term → Bindings → Bindings
 kept_to t s = filter (λ p. occurs p.0 t) s
 
--- the bindings meet the demand, or nothing does
+-- What is found meets the demand: a substitution, or none where none does. Terms have one outcome of unification.
 abbrev pub Meets : Demand → Option Bindings → Type 0
 Meets Never found = found ≡ None
 Meets (Test b) found = found ≡ tested b
@@ -129,7 +135,7 @@ compared c _ _ = false
 abbrev pub is_named : List ℕ → List ℕ → Bool
 is_named name text = pointwise nat_eq name text
 
--- of no argument
+-- of no argument; `fail` never holds
 abbrev pub nullary : List ℕ → Demand
 nullary name =
     if is_named name (codes "true") then Test true
@@ -150,7 +156,7 @@ unary name t =
     else if is_named name (codes "compound") then Test (is_compound (out-Term t))
     else Never
 
--- of two arguments, but for comparisons
+-- of two arguments, but for comparisons: `X is E` gives E a value, and `copy_term(T,C)` makes C a copy of T
 abbrev pub binary : ℕ → List ℕ → Term → Term → Demand
 binary fresh name l r =
     if is_named name (codes "=") then Solve (l ∷ []) (r ∷ [])
@@ -160,7 +166,7 @@ binary fresh name l r =
     else if is_named name (codes "copy_term") then SolveWithin r (copy_of fresh l)
     else Never
 
--- of two arguments
+-- a comparison of two terms in their standard order (8.4), one of their values (8.7), or what else is asked
 abbrev pub comparison_or : Demand → List ℕ → Term → Term → Demand
 comparison_or other name l r =
     given (given other (λ c. Test (compared c (value_of l) (value_of r))) (comparison_named name))
