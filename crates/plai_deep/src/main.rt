@@ -68,7 +68,10 @@ fn tell<R: Print + AllocGlobal>(rt: &R, what: &str, first: Term, times: u32) -> 
     let printed = text(alloc, &term)?;
     let same = text(alloc, &solved(alloc, term.copy(alloc)?)?)? == printed;
     let refused = is_refused(alloc, term)?;
-    println!(rt; "{what}: {} bytes, bound: {same}, refused: {refused}", printed.len())
+    println!(rt;
+        "{what}: {} bytes, bound: {same}, refused: {refused}",
+        printed.len()
+    )
 }
 
 /// How often the depth is doubled.
