@@ -1,8 +1,12 @@
-ghost use Rattle.std.specs.Prelude.{◌≡◌, ◌↔◌, Bool, false, List, None, IsSome, IsTrue, IfOk, IsOk, OnOk, OnErr};
+ghost use Rattle.std.specs.Prelude.{◌≡◌, Bool, false, List, None, IfOk, IsOk, OnOk, OnErr};
 ghost use Rattle.std.specs.declared.option.Option.{Option};
 ghost use Rattle.plai_domain.specs.declared.work.WorkEntry.{WorkEntry};
+ghost use Rattle.plai_domain.specs.declared.work.WorkEntry.TheVariants.{Evaluated};
+ghost use Rattle.plai_domain.specs.Names.{name_of};
 ghost use Rattle.plai_domain.specs.Noted.{noted};
 
+use crate::domain::Domain;
+use crate::key::Key;
 use plai_terms::{Abs, RowName};
 use std::alloc::{AllocError, Global};
 
@@ -48,15 +52,26 @@ pub trait Work {
     /// Whether a note may want memory.
     ghost takes_memory: { Self → Bool };
 
-    /// Whether what is noted is told. Where it isn't, nothing need be noted. It takes no memory.
-    fn keeps(&self) -> bool
-        ensures { IsTrue result ↔ IsSome (entries self.now) };
-
     /// Notes an entry, or leaves what was noted as before for want of memory.
     fn note(&mut self, alloc: Global, entry: &WorkEntry) -> Result<(), AllocError>
         ensures ok { OnOk result (entries self.new ≡ noted entry.now (entries self.old)) }
         ensures err { OnErr result (entries self.new ≡ entries self.old) }
-        ensures free { takes_memory self.old ≡ false → IsOk result };
+        ensures free { takes_memory self.old ≡ false → IsOk result }
+        ensures kept { takes_memory self.new ≡ takes_memory self.old };
+
+    /// Notes that a clause of a row is evaluated, where the row is named over a domain's own values. An object that keeps
+    /// nothing makes no pattern of them, and who calls can't tell.
+    fn note_evaluated<D: Domain>(
+        &mut self,
+        alloc: Global,
+        domain: &D,
+        name: &Key<D::Value>,
+        clause: u64,
+    ) -> Result<(), AllocError>
+        ensures ok { OnOk result (entries self.new ≡ noted (Evaluated (name_of D.value_of name.now) clause) (entries self.old)) }
+        ensures err { OnErr result (entries self.new ≡ entries self.old) }
+        ensures free { takes_memory self.old ≡ false → IsOk result }
+        ensures kept { takes_memory self.new ≡ takes_memory self.old };
 }
 
 /// Keeps nothing, and tells nothing. Its notes take no memory.
@@ -75,11 +90,17 @@ impl Work for Tally {
 
     ghost takes_memory = { λ _. false };
 
-    fn keeps(&self) -> bool {
-        false
+    fn note(&mut self, _alloc: Global, _entry: &WorkEntry) -> Result<(), AllocError> {
+        Ok(())
     }
 
-    fn note(&mut self, _alloc: Global, _entry: &WorkEntry) -> Result<(), AllocError> {
+    fn note_evaluated<D: Domain>(
+        &mut self,
+        _alloc: Global,
+        _domain: &D,
+        _name: &Key<D::Value>,
+        _clause: u64,
+    ) -> Result<(), AllocError> {
         Ok(())
     }
 }

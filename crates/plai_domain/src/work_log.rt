@@ -1,6 +1,9 @@
 ghost use Rattle.std.specs.Prelude.{◌≡◌, [], Some, true};
 
+use crate::domain::Domain;
+use crate::key::Key;
 use crate::work::{Work, WorkEntry};
+use plai_terms::RowName;
 use std::alloc::{AllocError, Global};
 use std::marker::Model;
 
@@ -46,12 +49,23 @@ impl Work for WorkLog {
 
     ghost takes_memory = { λ _. true };
 
-    fn keeps(&self) -> bool {
-        true
-    }
-
     fn note(&mut self, alloc: Global, entry: &WorkEntry) -> Result<(), AllocError> {
         self.kept.push(entry.copy(alloc)?)?;
+        Ok(())
+    }
+
+    fn note_evaluated<D: Domain>(
+        &mut self,
+        alloc: Global,
+        domain: &D,
+        name: &Key<D::Value>,
+        clause: u64,
+    ) -> Result<(), AllocError> {
+        let row = RowName {
+            pred: name.pred.copy(alloc)?,
+            call: domain.to_abs(alloc, &name.call)?,
+        };
+        self.kept.push(WorkEntry::Evaluated(row, clause))?;
         Ok(())
     }
 }

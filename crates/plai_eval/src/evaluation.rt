@@ -17,9 +17,9 @@ use crate::evaluated::Evaluated;
 use plai_base::Steps;
 use plai_builtins::actions_of;
 use plai_clauses::{Clause, Literal, Target};
-use plai_domain::{Action, Domain, Key, Work, WorkEntry};
-use plai_terms::{Listed, PredKey, RowName, Term};
-use std::alloc::{AllocError, Global};
+use plai_domain::{Action, Domain, Key, Work};
+use plai_terms::{Listed, PredKey, Term};
+use std::alloc::Global;
 use std::sync::ledger::Ledger;
 
 /// The actions of a builtin in turn. After none nothing more is done.
@@ -233,28 +233,6 @@ fn evaluate_at<D: Domain, A: Answers<D>, L: Ledger>(
     })
 }
 
-/// Notes that the clause of this number is evaluated for a row's name. The name's pattern is made only where it is told.
-fn note_evaluated<D: Domain, W: Work>(
-    alloc: Global,
-    domain: &D,
-    name: &Key<D::Value>,
-    number: u64,
-    work: &mut W,
-) -> Result<(), AllocError>
-    ensures ok { OnOk result (W.entries work.new
-        ≡ noted (entries.Evaluated (name_of D.value_of name.now) number) (W.entries work.old)) }
-    ensures err { OnErr result (W.entries work.new ≡ W.entries work.old) }
-{
-    if !work.keeps() {
-        return Ok(());
-    }
-    let row = RowName {
-        pred: name.pred.copy(alloc)?,
-        call: domain.to_abs(alloc, &name.call)?,
-    };
-    work.note(alloc, &WorkEntry::Evaluated(row, number))
-}
-
 /// Evaluates a clause, of this number from 1, for a row's name, and notes it.
 ///
 /// The clause's head has the arity of the name's predicate. It equals the evaluation under the answers (Muthukumar and
@@ -288,6 +266,6 @@ pub fn evaluate<D: Domain, A: Answers<D>, W: Work, L: Ledger>(
     ensures cost { steps.new ≤ steps.old + cost_of clause.now }
 {
     let evaluated = evaluate_at(alloc, domain, &name.call, clause, answers, steps)?;
-    note_evaluated(alloc, domain, name, number, work)?;
+    work.note_evaluated(alloc, domain, name, number)?;
     Ok(evaluated)
 }
