@@ -68,13 +68,6 @@ forced n i j nodes result a b over d =
     (λ t. all_from (models_of n nodes) _ (λ m h. let p = has_kept (2 ^ n) (is_model nodes) m h in e.0 t m p.0 p.1))
     (λ t. e.1 (λ m l h. all_of (models_of n nodes) (λ x. argument_in x i || argument_in x j) m t (kept_has (2 ^ n) (is_model nodes) m l h)))
 
-or_self : (b : Bool) → (b || b) ≡ b
-or_self true = refl
-or_self false = refl
-
-pub forced_one : (xs : List ℕ) (i : ℕ) (result : Bool) → result ≡ has_all xs (λ x. argument_in x i || argument_in x i) → result ≡ has_all xs (λ x. argument_in x i)
-forced_one xs i result e = e ∙ ap (has_all xs) (λ k x. or_self (argument_in x i) k)
-
 pub property_added : (slots result n i : ℕ) (p : Prop) → (p ≡ property.Ground i) ⊎ (p ≡ property.Int i) → speaks_within n p → n ≤ 16
     → result ≡ bit_or slots (mask_of (i - 1)) → (at : Assignment) → conjunction result at ≡ (conjunction slots at && allowed p at)
 property_added slots result n i p (inl q) w small e at =

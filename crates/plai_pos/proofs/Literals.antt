@@ -164,15 +164,6 @@ module _ (n v : ℕ) (args : List Term) (below : all_below v args ≡ true) (sta
   abbrev Projecting : ℕ → List Node → Type 0
   Projecting = IsProjecting n v args state
 
-  pub projecting_none : (rest : List Node) → rest ≡ state → IsCanonical rest → Projecting 0 rest
-  projecting_none rest e k = record {
-    canonical = k;
-    same = λ at. (
-      λ (there, (d, p)). (there, (d, (sym (ap (λ l. answer l there) e) ∙ p.0, λ j l. p.1 j (omega arith) l))),
-      λ (there, (d, p)). (there, (d, (ap (λ l. answer l there) e ∙ p.0, λ j le l. p.1 j l))),
-    );
-  }
-
   module _ (slots : List ℕ) (are : AreSlotsOf n (length args) args slots) where
     none_has : (xs : List ℕ) (slot k : ℕ) → has_some xs (λ mask. has_slot mask slot) ≡ false → k < length xs → has_slot (get_or xs k 0) slot ≡ false
     none_has [] slot k e l = absurd (omega (arith, l))

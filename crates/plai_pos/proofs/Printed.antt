@@ -65,9 +65,6 @@ leaf_text : (b : Bool) → shape_text (cond b All None) ≡ tree_text (Tip b)
 leaf_text true = refl
 leaf_text false = refl
 
-Seen : ℕ → ℕ → (ℕ → Bool) → Tree → Type 0
-Seen k i f t = (m : ℕ) → m < 2 ^ k → f m ≡ value t (seen i m)
-
 even_lt : (k m : ℕ) → m < 2 ^ k → 2 * m < 2 ^ suc k
 even_lt k m l = subst (λ z. 2 * m < z) (sym (pow-suc 2 k)) (double_lt m (2 ^ k) l).0
 

@@ -15,7 +15,7 @@ use Rattle.plai_bdd.specs.Slots.{conjunction, Somewhere, DifferWithin}
 use Rattle.plai_bdd.specs.Nodes.{IsCanonical, IsFunction, holds as answer}
 use Rattle.plai_assignments.specs.Assignments.{agree}
 use Rattle.plai_assignments.proofs.Holds.{holds-Var, holds_same}
-use Rattle.plai_pos.specs.Unified.{truth, AreUnified, IsUnified, AreSlotsOf, AreUnused, IsIntroduced, IsSubstituted}
+use Rattle.plai_pos.specs.Unified.{truth, IsUnified, AreSlotsOf, AreUnused, IsIntroduced, IsSubstituted}
 use Rattle.plai_pos.proofs.Alike.{TrueAlike}
 use Rattle.plai_pos.proofs.Masks.{conjunction-insert, conjunction-none}
 
@@ -79,45 +79,8 @@ beq_agree true false = refl
 beq_agree false true = refl
 beq_agree false false = refl
 
--- ---- one slot after another
-
-pub unified_none : (n first : ℕ) (terms : List Term) (old new : List Node) → new ≡ old → IsCanonical new → IsUnified n first 0 terms old new
-unified_none n first terms old new e c = record {
-  canonical = c;
-  answers = λ at. (λ t. (sym (ap (λ l. answer l at) e) ∙ t, λ j l. absurd (omega (arith, l))), λ p. ap (λ l. answer l at) e ∙ p.0);
-}
-
 last_or : (j i : ℕ) → j < i + 1 → (j < i) ⊎ (j ≡ i)
 last_or j i l = grind arith
-
-module _ (n first i slot : ℕ) (terms : List Term) (t : Term) (old rest new : List Node) (is : slot ≡ first + i) (at_i : t ≡ get_or terms i t) (within : i < length terms)
-    (so_far : IsUnified n first i terms old rest) (made : IsFunction new (λ at. answer rest at && beq (at slot) (truth n t at))) (at : Assignment) where
-  here : truth n t at ≡ truth n (get_or terms i (Var 0)) at
-  here = ap (λ x. truth n x at) (term_at terms i t at_i within)
-
-  down : IsTrue (answer new at) → IsTrue (answer old at) × AreUnified n first (i + 1) terms at
-  down h =
-      let p = and_parts (answer rest at) (beq (at slot) (truth n t at)) (sym (made.answers at) ∙ h) in
-      let q = (so_far.answers at).0 p.0 in
-      let s : at (first + i) ≡ truth n (get_or terms i (Var 0)) at = ap at (sym is) ∙ beq_same (at slot) (truth n t at) p.1 ∙ here in
-      (q.0, λ j l. by j q.1 s (last_or j i l))
-    where
-      by : (j : ℕ) → AreUnified n first i terms at → at (first + i) ≡ truth n (get_or terms i (Var 0)) at → (j < i) ⊎ (j ≡ i) → at (first + j) ≡ truth n (get_or terms j (Var 0)) at
-      by j all s (inl l) = all j l
-      by j all s (inr e) = subst (λ k. at (first + k) ≡ truth n (get_or terms k (Var 0)) at) (sym e) s
-
-  up : IsTrue (answer old at) × AreUnified n first (i + 1) terms at → IsTrue (answer new at)
-  up p =
-      let q : IsTrue (answer rest at) = (so_far.answers at).1 (p.0, λ j l. p.1 j (omega (arith, l))) in
-      let s : at slot ≡ truth n t at = ap at is ∙ p.1 i (omega arith) ∙ sym here in
-      made.answers at ∙ and_from _ _ q (same_beq (at slot) (truth n t at) s)
-
-pub unified_more : (n first i slot : ℕ) (terms : List Term) (t : Term) (old rest new : List Node) → slot ≡ first + i → t ≡ get_or terms i t → i < length terms
-    → IsUnified n first i terms old rest → IsFunction new (λ at. answer rest at && beq (at slot) (truth n t at)) → IsUnified n first (i + 1) terms old new
-unified_more n first i slot terms t old rest new is at_i within so_far made = record {
-  canonical = made.canonical;
-  answers = λ at. (down n first i slot terms t old rest new is at_i within so_far made at, up n first i slot terms t old rest new is at_i within so_far made at);
-}
 
 -- what is unified depends on its slots alone
 pub unified_alike : (n v first count e : ℕ) (terms : List Term) (old new : List Node) → all_below v terms ≡ true → count ≤ length terms → n + v ≤ e → first + count ≤ e
