@@ -16,7 +16,7 @@ folder, sizes = sys.argv[1], [int(word) for word in sys.argv[2:]]
 
 
 def chain(size):
-    """Each predicate calls the next with the variables of its arguments shuffled; the last one calls one in the middle."""
+    """Each predicate calls the next with its arguments shuffled and two variables exchanged; the last calls one in the middle."""
     choose = random.Random(size)
     arity, each, count = min(4 * size, 12), min(size, 3), 10 * size
     slots = range(arity * each)
@@ -27,7 +27,9 @@ def chain(size):
 
     yield f":- entry p0({', '.join(f'A{i}' for i in range(arity))}) : ({', '.join(f'ground(A{i + 1})' for i in range(0, arity - 1, 2))})."
     for number in range(count):
-        order = choose.sample(slots, len(slots))
+        order = [v for i in choose.sample(range(arity), arity) for v in slots[i * each:(i + 1) * each]]
+        first, second = choose.sample(slots, 2)
+        order[first], order[second] = order[second], order[first]
         follower = number + 1 if number + 1 < count else count // 2
         yield f"p{number}({arguments(list(slots))}) :- p{follower}({arguments(order)})."
         ends = choose.sample(range(arity), arity)
