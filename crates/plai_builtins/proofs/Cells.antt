@@ -6,7 +6,8 @@ use Rattle.std.specs.Cmp.Lexicographic.{pointwise}
 use Rattle.plai_terms.proofs.Terms.{induction}
 use Rattle.plai_terms.specs.declared.term.Term.{Term, Var, Int, Atom, Compound, the_lemmas}
 use Rattle.plai_clauses.specs.ClauseOf.{two, two_arguments}
-use Rattle.plai_builtins.specs.Lists.{with_items, cell_items, list_items, list_of, is_nil}
+use Rattle.plai_builtins.specs.Lists.{with_items, cell_items, list_items, list_of}
+use Rattle.plai_builtins.specs.Walks.{is_nil}
 use Rattle.plai_builtins.proofs.ListItems.{whole, list_items-Compound}
 
 -- items found before, and then those of the rest, if there are any

@@ -18,7 +18,8 @@ use Rattle.plai_terms.specs.declared.term.Term.TheOpen.{Term-F}
 use Rattle.plai_terms.proofs.Terms.{induction}
 use Rattle.plai_terms.proofs.Preorder.{preorder_is, arguments_of-Compound}
 use Rattle.plai_terms.proofs.Under.{or_cases, or_first, or_second}
-use Rattle.plai_builtins.specs.Copies.{occurrences, each_once, with_new, noted_in, noted, variables_of, renaming}
+use Rattle.plai_builtins.specs.Copies.{occurrences, each_once, variables_of, renaming}
+use Rattle.plai_builtins.specs.Walks.{with_new, noted_in, noted}
 use Rattle.plai_builtins.specs.Meaning.{kept_to, SolveWithin, Meets}
 use Rattle.plai_builtins.proofs.Occurring.{has, turned, has_filter-pass, other_than, variables_there}
 

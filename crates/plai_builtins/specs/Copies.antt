@@ -1,7 +1,6 @@
 -- Copies of terms with new variables (ISO/IEC 13211-1:1995, 7.1.6.2, variants of a term).
-use Rattle.std.specs.Prelude.{ℕ, suc, not, nat_eq, ◌==◌, if◌then◌else◌, List, [], ◌∷◌, ◌++◌, filter, flat_map}
-use Rattle.std.specs.List.{list_any}
-use Rattle.plai_terms.specs.declared.term.Term.{Term, Var, fold-Term, out-Term}
+use Rattle.std.specs.Prelude.{ℕ, suc, not, nat_eq, List, [], ◌∷◌, filter, flat_map}
+use Rattle.plai_terms.specs.declared.term.Term.{Term, Var, fold-Term}
 use Rattle.plai_terms.specs.declared.term.Term.TheOpen.{Term-F}
 use Rattle.plai_terms.specs.Subst.{apply_of}
 use Rattle.plai_terms.specs.Unification.{Bindings}
@@ -25,17 +24,6 @@ each_once (v ∷ vs) = v ∷ filter (λ w. not (nat_eq w v)) (each_once vs)
 -- the variables of a term, in the order of their first appearance
 abbrev pub variables_of : Term → List ℕ
 variables_of t = each_once (occurrences t)
-
--- the variables so far with those of a term that is itself a variable, at the end where it is new
-abbrev pub with_new : List ℕ → ℕ → List ℕ
-with_new vs v = if list_any (λ u. u == v) vs then vs else vs ++ v ∷ []
-
-abbrev pub noted_in : List ℕ → Term-F Term → List ℕ
-noted_in vs (Term-F.Var v) = with_new vs v
-noted_in vs _ = vs
-
-abbrev pub noted : List ℕ → Term → List ℕ
-noted vs t = noted_in vs (out-Term t)
 
 -- binds the variables to new ones, numbered from a first one on
 abbrev pub renaming : ℕ → List ℕ → Bindings

@@ -4,3 +4,4 @@ pub mod InTurn
 pub mod Listed
 pub mod Lists
 pub mod Meaning
+pub mod Walks

@@ -1,8 +1,7 @@
 -- Lists as terms (ISO/IEC 13211-1:1995, 6.3.5): the atom `[]`, and cells '.'(Head,Tail).
-use Rattle.std.specs.Prelude.{Bool, false, cond, nat_eq, Option, Some, None, option_map, List, [], ◌∷◌, map, codes}
+use Rattle.std.specs.Prelude.{cond, nat_eq, Option, Some, None, option_map, List, [], ◌∷◌, map, codes}
 use Rattle.std.specs.Cmp.Lexicographic.{pointwise}
-use Rattle.plai_terms.specs.declared.term.Term.{Term, Var, Int, Atom, Compound, fold-Term, out-Term}
-use Rattle.std.proofs.Common.{Vec, Global, Bor}
+use Rattle.plai_terms.specs.declared.term.Term.{Term, Var, Int, Atom, Compound, fold-Term}
 use Rattle.plai_terms.specs.declared.term.Term.TheOpen.{Term-F}
 
 -- the list of these items
@@ -27,16 +26,3 @@ with_items = fold-Term (Term × Option (List Term)) items_step
 -- the items of a list that ends with `[]`
 abbrev pub list_items : Term → Option (List Term)
 list_items t = (with_items t).1
-
--- the atom `[]`
-abbrev pub is_nil_in : Term-F Term → Bool
-is_nil_in (Term-F.Atom a) = pointwise nat_eq a (codes "[]")
-is_nil_in _ = false
-
-abbrev pub is_nil : Term → Bool
-is_nil t = is_nil_in (out-Term t)
-
--- the items that references point to, if there are any
-abbrev pub items_found : Option (Vec (Bor Term) Global) → Option (List Term)
-items_found None = None
-items_found (Some v) = Some (map (λ x. x.now) v.items)

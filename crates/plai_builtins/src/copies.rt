@@ -3,7 +3,8 @@ ghost use Rattle.std.specs.Prelude.{◌≡◌, ◌<◌, ◌+◌, ◌^◌, [], �
 ghost use Rattle.std.specs.List.{IsDistinct};
 ghost use Rattle.plai_terms.specs.Preorder.{referred};
 ghost use Rattle.plai_terms.specs.Substitution.{IsBelow};
-ghost use Rattle.plai_builtins.specs.Copies.{variables_of, noted, renaming, copy_of};
+ghost use Rattle.plai_builtins.specs.Copies.{variables_of, renaming, copy_of};
+ghost use Rattle.plai_builtins.specs.Walks.{noted};
 ghost use Rattle.plai_builtins.specs.Meaning.{SolveWithin, Meets, kept_to};
 
 use plai_terms::{Outcome, Subst, Term, unify};

@@ -2,7 +2,8 @@
 ghost use Rattle.std.specs.Prelude.{◌≡◌, [], ◌∷◌, IfOk, option_map, codes};
 ghost use Rattle.plai_terms.specs.declared.term.Term.{Compound};
 ghost use Rattle.plai_clauses.specs.ClauseOf.{two, two_arguments};
-ghost use Rattle.plai_builtins.specs.Lists.{list_of, list_items, is_nil, items_found};
+ghost use Rattle.plai_builtins.specs.Lists.{list_of, list_items};
+ghost use Rattle.plai_builtins.specs.Walks.{is_nil, items_found};
 
 use plai_terms::{Args, Name, Term};
 use std::alloc::{AllocError, Global};

@@ -62,7 +62,7 @@ acts_within m (action.Var i) = (1 ≤ i) × (i ≤ m)
 acts_within m (action.Nonvar i) = (1 ≤ i) × (i ≤ m)
 acts_within m (action.Havoc slots) = slots < 2 ^ m
 
--- the action allows the substitution at these arguments
+-- The action allows the substitution at these arguments, in a wider sense than `Allows`: it need not be local to them.
 abbrev pub allows_at : List Term → List (ℕ × Term) → Action → Type 0
 allows_at terms s action.Fail = ⊥
 allows_at terms s (action.Unify i j) = apply_of s (argument terms i) ≡ apply_of s (argument terms j)
