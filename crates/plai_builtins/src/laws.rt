@@ -23,7 +23,7 @@ pub fn table_laws()
 
 /// What holds of the builtins' meanings, at any name.
 pub fn meanings_are_allowed()
-    // There is one for each arguments: a substitution or none.
+    // At any arguments there is one: a substitution, or none.
     ensures total { (name : List ℕ) (args : List Term) (fresh : ℕ) → (found : Option Bindings) × Means name args fresh found }
     ensures one { (name : List ℕ) (args : List Term) (fresh : ℕ) (a b : Option Bindings) → Means name args fresh a → Means name args fresh b → a ≡ b }
 
