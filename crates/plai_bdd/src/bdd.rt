@@ -81,8 +81,10 @@ impl Bdd {
             left: left.len() - 1,
             right: right.len() - 1,
         };
-        let mut table = IndexSet::new(alloc);
-        let mut memo = IndexMap::new(alloc);
+        // (about as many nodes as the larger function has: the tables grow where there are more)
+        let size = left.len().max(right.len());
+        let mut table = IndexSet::with_capacity(alloc, size)?;
+        let mut memo = IndexMap::with_capacity(alloc, size)?;
         let _root = combine(connective, change, left, right, pair, &mut table, &mut memo)?;
         let nodes = Vec::from_slice(alloc, table.as_slice())?;
         Ok(Bdd { nodes })

@@ -36,10 +36,10 @@ given connective change self other self_inside other_inside left right start tab
 
 pub invariant_of-result : goal.invariant_of-result
 invariant_of-result c =
-    (given c.args.connective c.args.change c.args.self.now c.args.other.now _ _ c.as_slice-left.result.now c.as_slice-right.result.now (keys c.new-table.result) _ _ _ c.in_ok-_root._root (search rules)
+    (given c.args.connective c.args.change c.args.self.now c.args.other.now _ _ c.as_slice-left.result.now c.as_slice-right.result.now (keys c.in_ok-table.table) _ _ _ c.in_ok-_root._root (search rules)
     c.in_ok-_root.ensures.added c.in_ok-nodes.ensures.items c.as_slice.ensures.keys c.as_slice-left.ensures.value c.self.view_is c.as_slice-right.ensures.value c.other.view_is).canonical
 
 pub returns : goal.returns
 returns c =
-    given c.args.connective c.args.change c.args.self.now c.args.other.now _ _ c.as_slice-left.result.now c.as_slice-right.result.now (keys c.new-table.result) _ _ _ c.in_ok-_root._root (search rules)
+    given c.args.connective c.args.change c.args.self.now c.args.other.now _ _ c.as_slice-left.result.now c.as_slice-right.result.now (keys c.in_ok-table.table) _ _ _ c.in_ok-_root._root (search rules)
     c.in_ok-_root.ensures.added c.in_ok-nodes.ensures.items c.as_slice.ensures.keys c.as_slice-left.ensures.value c.self.view_is c.as_slice-right.ensures.value c.other.view_is
