@@ -22,6 +22,7 @@ pub mod Skeletons
 pub mod Solutions
 pub mod Solved
 pub mod Sorted
+pub mod Splits
 pub mod Substs
 pub mod Tables
 pub mod TermTexts

@@ -66,12 +66,12 @@ fn put_front(
 // Deals with the first equation.
 fn advance(
     alloc: Global,
-    left: &Term,
-    right: &Term,
+    left: Term,
+    right: Term,
     waiting: &mut Vec<(Term, Term)>,
     bindings: &mut Vec<(u32, Term)>,
 ) -> Result<Progress, AllocError>
-    ensures { IfOk result (λ done. IsProgress (move_of left.now right.now) done (reverse waiting.old.items) bindings.old.items (reverse waiting.new.items) bindings.new.items) }
+    ensures { IfOk result (λ done. IsProgress (move_of left right) done (reverse waiting.old.items) bindings.old.items (reverse waiting.new.items) bindings.new.items) }
 {
     match next_move(alloc, left, right)? {
         Move::Skip => Ok(Progress::Done),
@@ -102,7 +102,8 @@ fn advance_pair(
 ) -> Result<Progress, AllocError>
     ensures { IfOk result (λ done. IsProgress (move_of pair.0 pair.1) done (reverse waiting.old.items) bindings.old.items (reverse waiting.new.items) bindings.new.items) }
 {
-    advance(alloc, &pair.0, &pair.1, waiting, bindings)
+    let (left, right) = pair;
+    advance(alloc, left, right, waiting, bindings)
 }
 
 /// Unifies two lists of terms of equal length, with the occurs check: the equations are solved one by one,

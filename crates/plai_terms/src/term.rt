@@ -1,5 +1,6 @@
 ghost use Rattle.std.specs.Prelude.{◌≡◌, ◌-◌, ◌^◌, min, IfOk, List, ◌∷◌};
 ghost use Rattle.plai_terms.specs.declared.term.Term.{Term, Compound};
+ghost use Rattle.plai_terms.specs.Preorder.{arguments_of};
 ghost use Rattle.plai_terms.specs.Term.{depth_of, is_ground, occurs, has_variables_below};
 
 use crate::name::Name;
@@ -64,6 +65,17 @@ impl Drop for Term {
 }
 
 impl Term {
+    // The arguments of a compound, given up, and of a variable, an integer or an atom none. Only here can a term,
+    // which has a `drop` of its own, be taken apart.
+    pub(crate) fn into_arguments(self, alloc: Global) -> Vec<Term>
+        ensures { result.items ≡ arguments_of self }
+    {
+        match self {
+            Term::Compound(_, args) => args.into_vec(),
+            _ => Vec::new(alloc),
+        }
+    }
+
     /// An equal term, of any depth.
     pub fn copy(&self, alloc: Global) -> Result<Term, AllocError>
         ensures { IfOk result (λ t. t ≡ self.now) }

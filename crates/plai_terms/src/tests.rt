@@ -171,6 +171,16 @@ fn deep_terms_are_walked(rt: HostRuntime) -> Result<(), Fail> {
     Ok(())
 }
 
+// The arguments are moved: copied at each level, they would be over thirty million subterms.
+#[test]
+fn deep_terms_unify(rt: HostRuntime) -> Result<(), Fail> {
+    let alloc = rt.alloc();
+    let (left, other) = (deep(alloc)?, atom(alloc, b"a")?);
+    let right = Subst::single(alloc, 0, other)?.apply(alloc, &left)?;
+    assert!(rt; unification(alloc, left, right)?.as_slice() == b"_0=a".as_slice());
+    Ok(())
+}
+
 fn masks(alloc: Global, bits: &[u64]) -> Result<Listed<Mask>, AllocError> {
     let mut masks = Vec::new(alloc);
     for mask in bits {
