@@ -10,6 +10,7 @@ pub enum Connective {
 }
 
 impl Connective {
+    /// What it makes of two answers.
     pub fn answer(self, left: bool, right: bool) -> bool
         ensures { result ≡ answer_of self left right }
     {
@@ -38,6 +39,7 @@ pub enum Placed {
 }
 
 impl Change {
+    /// Where the slot comes to stand.
     pub fn place(self, slot: u32) -> Placed
         requires { can_place self slot }
         ensures { result ≡ placed self slot }

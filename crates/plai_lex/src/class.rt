@@ -4,6 +4,7 @@ ghost use Rattle.std.specs.List.{prefix_len};
 ghost use Rattle.plai_lex.specs.Bytes.{is_small_letter, is_capital, is_decimal, is_alphanumeric, is_symbol, is_layout, is_printable};
 ghost use Rattle.plai_lex.specs.Classes.{in_class};
 
+/// From `a` to `z`.
 pub fn is_small_letter(byte: u8) -> bool
     ensures { result ≡ is_small_letter byte }
 {
@@ -29,12 +30,14 @@ fn is_alphanumeric(byte: u8) -> bool
     is_small_letter(byte) || is_capital(byte) || is_decimal(byte)
 }
 
+/// A character of which symbolic names consist.
 pub fn is_symbol(byte: u8) -> bool
     ensures { result ≡ is_symbol byte }
 {
     b"+-*/\\^<>=~:.?@#&$".contains(&byte)
 }
 
+/// A space, or one of the bytes 9 to 13.
 pub fn is_layout(byte: u8) -> bool
     ensures { result ≡ is_layout byte }
 {

@@ -27,6 +27,7 @@ impl<V> Model for ByName<V> {
 }
 
 impl<V: Copy> ByName<V> {
+    /// No name has a value.
     pub fn new(alloc: Global) -> ByName<V>
         ensures { result ≡ finite.empty }
     {

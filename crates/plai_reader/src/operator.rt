@@ -43,6 +43,7 @@ pub enum Class {
 }
 
 impl OpKind {
+    /// What an operator of this kind takes on its left side.
     pub fn left(self) -> Side
         ensures { result ≡ left_of self }
     {
@@ -53,6 +54,7 @@ impl OpKind {
         }
     }
 
+    /// What it takes on its right side.
     pub fn right(self) -> Side
         ensures { result ≡ right_of self }
     {
@@ -63,6 +65,7 @@ impl OpKind {
         }
     }
 
+    /// Its class.
     pub fn class(self) -> Class
         ensures { result ≡ class_of self }
     {
@@ -73,12 +76,14 @@ impl OpKind {
         }
     }
 
+    /// Whether it stands behind its operand.
     pub fn is_postfix(self) -> bool
         ensures { result ≡ is_postfix self }
     {
         matches!(self, OpKind::Xf | OpKind::Yf)
     }
 
+    /// Whether its right side takes an operator of the same priority.
     pub fn leans_right(self) -> bool
         ensures { result ≡ leans_right self }
     {

@@ -1,6 +1,7 @@
 //! Why there is no tree.
 use std::alloc::{AllocError, AllocFailed};
 
+/// What ends reading without a tree.
 #[derive(Clone, Copy, Debug, PartialEq, Eq)]
 pub enum Stop {
     /// The tokens have no tree.

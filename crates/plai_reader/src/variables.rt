@@ -21,6 +21,7 @@ fn is_blank(name: &Name) -> bool
 }
 
 impl Variables {
+    /// No variable has a number.
     pub fn new(alloc: Global) -> Variables
         ensures { result ≡ no_variables }
     {
