@@ -1,5 +1,5 @@
 -- A list without a branch on a slot stands for a function that does not depend on it.
-use Rattle.std.proofs.Common.{◌≡◌, ℕ, zero, suc, ◌<◌, Bool, true, false, cond, nat_eq, ◌||◌, ◌-◌, List, [], ◌∷◌, length, get_or, refl, sym, ap, ◌∙◌, true≢false, arith}
+use Rattle.std.proofs.Common.{◌≡◌, ℕ, zero, suc, ◌<◌, Bool, true, false, cond, nat_eq, ◌||◌, ◌-◌, List, [], ◌∷◌, length, get_or, refl, sym, ap, subst, ◌∙◌, true≢false, arith}
 use Rattle.std.specs.List.{list_any}
 use Rattle.plai_base.specs.Mask.{has_slot}
 use Rattle.plai_bdd.specs.declared.node.Node.{Node}
@@ -48,7 +48,7 @@ unused_free t slot c none at b =
     alike t r.table slot none at b (length t) (length t - 1) (omega (arith, r.some)) (omega (arith, r.some))
 
 -- so it is what it is at some answer of that slot
-some_unused : (f : Assignment → Bool) (slot : ℕ) → IsFree f slot → (mask : ℕ) (at : Assignment) → f at ≡ some_slot mask slot f at
+pub some_unused : (f : Assignment → Bool) (slot : ℕ) → IsFree f slot → (mask : ℕ) (at : Assignment) → f at ≡ some_slot mask slot f at
 some_unused f slot free mask at = by (has_slot mask slot)
   where
     twice : (x y z : Bool) → x ≡ z → y ≡ z → z ≡ (x || y)
@@ -59,14 +59,15 @@ some_unused f slot free mask at = by (has_slot mask slot)
     by true = twice _ _ _ (free at false) (free at true)
     by false = refl
 
-pub unused_is : (t : List Node) (slot mask : ℕ) → IsCanonical t → list_any (λ node. nat_eq (slot_of node) slot) t ≡ false → IsFunction t (some_slot mask slot (holds t))
-unused_is t slot mask c none = record { canonical = c; answers = some_unused (holds t) slot (unused_free t slot c none) mask }
+-- the same by the slice of the nodes
+pub unused_seen : (self inside seen : List Node) (slot : ℕ) (r : Bool) → IsCanonical inside → seen ≡ inside → inside ≡ self
+    → r ≡ list_any (λ node. nat_eq (slot_of node) slot) seen → r ≡ false → IsFree (holds self) slot
+unused_seen self inside seen slot r c e f found none =
+    unused_free self slot (subst IsCanonical f c) (sym (ap (list_any (λ node. nat_eq (slot_of node) slot)) (e ∙ f)) ∙ sym found ∙ none)
 
 -- the two ways in which nothing is to be done for a slot
-pub unused_seen : (self inside seen : List Node) (slot mask : ℕ) (r : Bool) → IsCanonical self → seen ≡ inside → inside ≡ self
-    → r ≡ list_any (λ node. nat_eq (slot_of node) slot) seen → r ≡ false → IsFunction self (some_slot mask slot (holds self))
-unused_seen self inside seen slot mask r c e f found none =
-    unused_is self slot mask c (sym (ap (list_any (λ node. nat_eq (slot_of node) slot)) (e ∙ f)) ∙ sym found ∙ none)
+pub unused_is : (self : List Node) (slot mask : ℕ) → IsCanonical self → IsFree (holds self) slot → IsFunction self (some_slot mask slot (holds self))
+unused_is self slot mask c free = record { canonical = c; answers = some_unused (holds self) slot free mask }
 
 pub without_slot : (self : List Node) (slot mask : ℕ) (r : Bool) → IsCanonical self → r ≡ has_slot mask slot → r ≡ false → IsFunction self (some_slot mask slot (holds self))
 without_slot self slot mask r c has none = record {

@@ -5,7 +5,7 @@ use Rattle.plai_bdd.specs.Assignment.{Assignment, with_slot, IsFree}
 use Rattle.plai_bdd.specs.declared.node.Node.{Node}
 use Rattle.plai_bdd.specs.Tree.{Tree, Tip, Fork, value, IsReduced}
 use Rattle.plai_bdd.specs.declared.change.Change.{Change}
-use Rattle.plai_bdd.specs.declared.change.Change.TheVariants.{Keep, Fix, Raise, Lower}
+use Rattle.plai_bdd.specs.declared.change.Change.TheVariants.{Keep, Fix, Apart, Raise, Lower}
 use Rattle.plai_bdd.specs.Change.{AllSlots, can_place, IsPlaceable}
 use Rattle.plai_bdd.specs.Nodes.{root_of, holds, IsCanonical, IsOver}
 use Rattle.plai_bdd.proofs.Trees.{value-with_slot, value-low, value-high, children_same, same_below}
@@ -67,6 +67,9 @@ keep_places f slot = inl tt
 
 pub fix_places : (fixed : ℕ) (answer : Bool) (f : Assignment → Bool) → IsPlaceable (Fix fixed answer) f
 fix_places fixed answer f slot = inl tt
+
+pub apart_places : (parted : ℕ) (f : Assignment → Bool) → IsPlaceable (Apart parted) f
+apart_places parted f slot = inl tt
 
 below_or_not : (a b : ℕ) → (a < b) ⊎ (b ≤ a)
 below_or_not a b = grind arith

@@ -2,11 +2,13 @@ pub mod Adding
 pub mod Branches
 pub mod Builds
 pub mod Canonical
+pub mod Chains
 pub mod Depends
 pub mod Either
 pub mod Functions
 pub mod Lists
 pub mod Models
+pub mod Products
 pub mod Same
 pub mod Shown
 pub mod Slots

@@ -14,7 +14,7 @@ both_true : (a b : Bool) → (a && b) ≡ true → (a ≡ true) × (b ≡ true)
 both_true true b h = (refl, h)
 both_true false b h = absurd (true≢false (sym h))
 
-no_slots : (slot : ℕ) → has_slot 0 slot ≡ false
+pub no_slots : (slot : ℕ) → has_slot 0 slot ≡ false
 no_slots slot = ap (λ n. nat_eq n 1) (bit_at-zero slot)
 
 same_or_not : (a b : ℕ) → (a ≡ b) ⊎ (a ≢ b)

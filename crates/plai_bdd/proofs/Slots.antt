@@ -4,7 +4,7 @@ use Rattle.std.proofs.lemmas.Bool.Decides.{nat_tests}
 use Rattle.std.specs.Bool.{beq}
 use Rattle.plai_base.specs.Mask.{has_slot}
 use Rattle.plai_bdd.specs.Assignment.{Assignment, with_slot, IsFree}
-use Rattle.plai_bdd.specs.Slots.{all_hold, some_hold, and_slot, some_slot, conjunction, quantified, AllTrue, Somewhere}
+use Rattle.plai_bdd.specs.Slots.{all_hold, some_hold, some_slot, conjunction, quantified, AllTrue, Somewhere}
 use Rattle.plai_bdd.specs.declared.node.Node.{Node}
 use Rattle.plai_bdd.specs.Nodes.{holds, IsCanonical, IsFunction}
 use Rattle.plai_bdd.proofs.Functions.{IsFunction-as}
@@ -17,7 +17,7 @@ DifferBelow mask bound left right = (k : ℕ) → (left k ≡ right k) ⊎ ((k <
 abbrev SomewhereBelow : ℕ → ℕ → (Assignment → Bool) → Assignment → Type 0
 SomewhereBelow mask bound f at = (other : Assignment) × (DifferBelow mask bound other at × IsTrue (f other))
 
-pub all_hold-more : (mask n : ℕ) (at : Assignment) → all_hold mask (n + 1) at ≡ and_slot mask n (all_hold mask n) at
+pub all_hold-more : (mask n : ℕ) (at : Assignment) → all_hold mask (n + 1) at ≡ (all_hold mask n at && (not (has_slot mask n) || at n))
 unfolding all_hold
 all_hold-more mask n at = rw add-one refl
 
@@ -176,10 +176,18 @@ some_hold-Decides mask (suc n) f at =
     let d = some_hold-Decides mask n (some_slot mask n f) at in
     (λ h. more mask n f at (d.0 h), λ s. d.1 (less mask n f at s))
 
--- the step of the loop of a conjunction
-pub and_kept : (mask n : ℕ) (t u : List Node) → IsFunction t (all_hold mask n) → IsFunction u (and_slot mask n (holds t)) → IsFunction u (all_hold mask (n + 1))
-and_kept mask n t u old new =
-    IsFunction-as (λ at. ap (λ b. b && (not (has_slot mask n) || at n)) (old.answers at) ∙ sym (all_hold-more mask n at)) new
+-- one slot less is left to quantify, and none
+pub left_step : (mask n m : ℕ) (f rest new : Assignment → Bool) → m ≡ n + 1 → ((at : Assignment) → some_hold mask m rest at ≡ quantified mask f at)
+    → ((at : Assignment) → new at ≡ some_slot mask n rest at) → (at : Assignment) → some_hold mask n new at ≡ quantified mask f at
+left_step mask n m f rest new e old step at =
+    ap (λ g. some_hold mask n g at) (λ i other. step other i)
+    ∙ sym (some_hold-more mask n rest at)
+    ∙ ap (λ k. some_hold mask k rest at) (sym e)
+    ∙ old at
+
+pub left_all : (mask n : ℕ) (f rest : Assignment → Bool) → n ≡ 0 → ((at : Assignment) → some_hold mask n rest at ≡ quantified mask f at)
+    → (at : Assignment) → rest at ≡ quantified mask f at
+left_all mask n f rest e left at = sym (some_hold-none mask rest at) ∙ ap (λ k. some_hold mask k rest at) (sym e) ∙ left at
 
 -- what is left to quantify of a function, below a bound
 pub record HasLeft (mask bound : ℕ) (self rest : List Node) : Type 0 where
@@ -190,24 +198,14 @@ pub left_start : (mask : ℕ) (self rest : List Node) → rest ≡ self → IsCa
 left_start mask self rest e c = record { canonical = c; left = λ at. ap (λ l. some_hold mask 64 (holds l) at) e }
 
 pub left_kept : (mask n m : ℕ) (self rest new : List Node) → m ≡ n + 1 → HasLeft mask m self rest → IsFunction new (some_slot mask n (holds rest)) → HasLeft mask n self new
-left_kept mask n m self rest new e old step = record {
-  canonical = step.canonical;
-  left = λ at.
-      ap (λ f. some_hold mask n f at) (λ i other. step.answers other i)
-      ∙ sym (some_hold-more mask n (holds rest) at)
-      ∙ ap (λ k. some_hold mask k (holds rest) at) (sym e)
-      ∙ old.left at;
-}
+left_kept mask n m self rest new e old step = record { canonical = step.canonical; left = left_step mask n m (holds self) (holds rest) (holds new) e old.left step.answers }
 
 pub left_none : (mask n : ℕ) (self rest : List Node) → n ≡ 0 → HasLeft mask n self rest → IsFunction rest (quantified mask (holds self))
-left_none mask n self rest e h = record {
-  canonical = h.canonical;
-  answers = λ at. sym (some_hold-none mask (holds rest) at) ∙ ap (λ k. some_hold mask k (holds rest) at) (sym e) ∙ h.left at;
-}
+left_none mask n self rest e h = record { canonical = h.canonical; answers = left_all mask n (holds self) (holds rest) e h.left }
 
-pub some_meaning : (mask : ℕ) (self t : List Node) → IsFunction t (quantified mask (holds self)) → (at : Assignment) → IsTrue (holds t at) ↔ Somewhere mask (holds self) at
-some_meaning mask self t h at =
-    let d = some_hold-Decides mask 64 (holds self) at in
+pub some_meaning : (mask : ℕ) (f : Assignment → Bool) (t : List Node) → IsFunction t (quantified mask f) → (at : Assignment) → IsTrue (holds t at) ↔ Somewhere mask f at
+some_meaning mask f t h at =
+    let d = some_hold-Decides mask 64 f at in
     (λ this. d.0 (sym (h.answers at) ∙ this), λ s. h.answers at ∙ d.1 s)
 
 -- assignments that differ within the set still do where one of its slots is replaced
@@ -249,9 +247,8 @@ quantified-free mask slot lt e f at b =
     (λ h. let s = there.0 h in here.1 (s.0, (differ_then mask 64 s.0 other at s.1.0 d, s.1.1)))
     (λ h. let s = here.0 h in there.1 (s.0, (differ_then mask 64 s.0 at other s.1.0 (differ_back mask 64 other at d), s.1.1)))
 
-pub some_free : (mask : ℕ) (self t : List Node) → IsFunction t (quantified mask (holds self)) → (slot : ℕ) → slot < 64 → IsTrue (has_slot mask slot) → IsFree (holds t) slot
-some_free mask self t h slot lt e at b =
-    h.answers (with_slot at slot b) ∙ quantified-free mask slot lt e (holds self) at b ∙ sym (h.answers at)
+pub some_free : (mask : ℕ) (f : Assignment → Bool) (t : List Node) → IsFunction t (quantified mask f) → (slot : ℕ) → slot < 64 → IsTrue (has_slot mask slot) → IsFree (holds t) slot
+some_free mask f t h slot lt e at b = h.answers (with_slot at slot b) ∙ quantified-free mask slot lt e f at b ∙ sym (h.answers at)
 
 beq-Decides : (a b : Bool) → IsTrue (beq a b) ↔ (IsTrue a ↔ IsTrue b)
 beq-Decides true true = (λ _. (λ h. h, λ h. h), λ _. refl)

@@ -5,8 +5,8 @@ use Rattle.plai_bdd.specs.Assignment.{Assignment}
 use Rattle.plai_bdd.specs.declared.node.Node.{Node}
 use Rattle.plai_bdd.specs.declared.node.Node.TheVariants.{Leaf, Branch}
 use Rattle.plai_bdd.specs.declared.change.Change.{Change}
-use Rattle.plai_bdd.specs.declared.change.Change.TheVariants.{Keep, Fix, Raise, Lower}
-use Rattle.plai_bdd.specs.declared.change.Placed.TheVariants.{At, Fixed}
+use Rattle.plai_bdd.specs.declared.change.Change.TheVariants.{Keep, Fix, Apart, Raise, Lower}
+use Rattle.plai_bdd.specs.declared.change.Placed.TheVariants.{At, Fixed, Parted}
 use Rattle.plai_bdd.specs.Tree.{Tree, Tip, Fork, value, IsReduced}
 use Rattle.plai_bdd.specs.Change.{placed, can_place, moved, changed, AllSlots, top_of}
 use Rattle.plai_bdd.specs.Nodes.{tree_of_node, trees_of, tree_at}
@@ -116,25 +116,33 @@ top_fits change (Fork s l u) slot f e lt = subst (can_place change) e f.0
 
 -- where a slot comes to stand, and what it answers
 pub placed_at : (change : Change) (slot m : ℕ) → placed change slot ≡ At m → can_place change slot → slot < 64
-    → (m ≡ moved change slot) × (m < 64) × ((at : Assignment) → changed change at slot ≡ at m)
-placed_at Keep slot m e can lt = let f : slot ≡ m = cc in (sym f, omega arith, λ at. ap at f)
-placed_at (Raise by) slot m e can lt = let f : slot + by ≡ m = cc in (sym f, omega arith, λ at. ap at f)
-placed_at (Lower by) slot m e can lt = let f : slot - by ≡ m = cc in (sym f, omega arith, λ at. ap at f)
+    → (m ≡ moved change slot) × (m < 64) × ((side : Bool) (at : Assignment) → changed change side at slot ≡ at m)
+placed_at Keep slot m e can lt = let f : slot ≡ m = cc in (sym f, omega arith, λ side at. ap at f)
+placed_at (Raise by) slot m e can lt = let f : slot + by ≡ m = cc in (sym f, omega arith, λ side at. ap at f)
+placed_at (Lower by) slot m e can lt = let f : slot - by ≡ m = cc in (sym f, omega arith, λ side at. ap at f)
 placed_at (Fix fixed answer) slot m e can lt = at_by (nat_eq slot fixed) refl
   where
-    at_by : (b : Bool) → nat_eq slot fixed ≡ b → (m ≡ slot) × (m < 64) × ((at : Assignment) → cond (nat_eq slot fixed) answer (at slot) ≡ at m)
+    at_by : (b : Bool) → nat_eq slot fixed ≡ b → (m ≡ slot) × (m < 64) × ((side : Bool) (at : Assignment) → cond (nat_eq slot fixed) answer (at slot) ≡ at m)
     at_by true h = let g : Fixed answer ≡ At m = sym (ap (λ b. cond b (Fixed answer) (At slot)) h) ∙ e in (cc)
     at_by false h =
         let g : At slot ≡ At m = sym (ap (λ b. cond b (Fixed answer) (At slot)) h) ∙ e in
         let f : slot ≡ m = cc in
-        (sym f, omega arith, λ at. ap (λ b. cond b answer (at slot)) h ∙ ap at f)
+        (sym f, omega arith, λ side at. ap (λ b. cond b answer (at slot)) h ∙ ap at f)
+placed_at (Apart parted) slot m e can lt = at_by (nat_eq slot parted) refl
+  where
+    at_by : (b : Bool) → nat_eq slot parted ≡ b → (m ≡ slot) × (m < 64) × ((side : Bool) (at : Assignment) → cond (nat_eq slot parted) side (at slot) ≡ at m)
+    at_by true h = let g : Parted ≡ At m = sym (ap (λ b. cond b Parted (At slot)) h) ∙ e in (cc)
+    at_by false h =
+        let g : At slot ≡ At m = sym (ap (λ b. cond b Parted (At slot)) h) ∙ e in
+        let f : slot ≡ m = cc in
+        (sym f, omega arith, λ side at. ap (λ b. cond b side (at slot)) h ∙ ap at f)
 
 pub placed_fixed : (change : Change) (slot : ℕ) (answer : Bool) → placed change slot ≡ Fixed answer
-    → (moved change slot ≡ slot) × ((at : Assignment) → changed change at slot ≡ answer)
+    → (moved change slot ≡ slot) × ((side : Bool) (at : Assignment) → changed change side at slot ≡ answer)
 placed_fixed Keep slot answer e = (cc)
 placed_fixed (Raise by) slot answer e = (cc)
 placed_fixed (Lower by) slot answer e = (cc)
-placed_fixed (Fix fixed given) slot answer e = (refl, λ at. fixed_by (nat_eq slot fixed) refl at)
+placed_fixed (Fix fixed given) slot answer e = (refl, λ side at. fixed_by (nat_eq slot fixed) refl at)
   where
     fixed_by : (b : Bool) → nat_eq slot fixed ≡ b → (at : Assignment) → cond (nat_eq slot fixed) given (at slot) ≡ answer
     fixed_by true h at =
@@ -142,10 +150,33 @@ placed_fixed (Fix fixed given) slot answer e = (refl, λ at. fixed_by (nat_eq sl
         let f : given ≡ answer = cc in
         ap (λ b. cond b given (at slot)) h ∙ f
     fixed_by false h at = let g : At slot ≡ Fixed answer = sym (ap (λ b. cond b (Fixed given) (At slot)) h) ∙ e in (cc)
+placed_fixed (Apart parted) slot answer e = absurd (never (nat_eq slot parted) e)
+  where
+    never : (b : Bool) → cond b Parted (At slot) ≡ Fixed answer → ⊥
+    never true g = cc
+    never false g = cc
+
+-- a slot that goes with an answer for each side
+pub placed_parted : (change : Change) (slot : ℕ) → placed change slot ≡ Parted
+    → (moved change slot ≡ slot) × ((side : Bool) (at : Assignment) → changed change side at slot ≡ side)
+placed_parted Keep slot e = (cc)
+placed_parted (Raise by) slot e = (cc)
+placed_parted (Lower by) slot e = (cc)
+placed_parted (Fix fixed given) slot e = absurd (never (nat_eq slot fixed) e)
+  where
+    never : (b : Bool) → cond b (Fixed given) (At slot) ≡ Parted → ⊥
+    never true g = cc
+    never false g = cc
+placed_parted (Apart parted) slot e = (refl, λ side at. parted_by (nat_eq slot parted) refl side at)
+  where
+    parted_by : (b : Bool) → nat_eq slot parted ≡ b → (side : Bool) (at : Assignment) → cond (nat_eq slot parted) side (at slot) ≡ side
+    parted_by true h side at = ap (λ b. cond b side (at slot)) h
+    parted_by false h side at = let g : At slot ≡ Parted = sym (ap (λ b. cond b Parted (At slot)) h) ∙ e in (cc)
 
 -- the slots below one stay below it
 pub moved_more : (change : Change) (slot low : ℕ) → can_place change slot → slot < low → moved change slot + 1 ≤ moved change low
 moved_more Keep slot low can lt = omega arith
 moved_more (Fix fixed answer) slot low can lt = omega arith
+moved_more (Apart parted) slot low can lt = omega arith
 moved_more (Raise by) slot low can lt = omega arith
 moved_more (Lower by) slot low can lt = omega arith

@@ -1,5 +1,5 @@
 -- The steps of combining two places: leaves, a slot that is placed, a slot that is fixed, and what is noted.
-use Rattle.std.proofs.Common.{true≢false, Result, Ok, Err, IfOk, OnOk, ◌≡◌, ◌≢◌, ℕ, ◌+◌, ◌<◌, ◌≤◌, Bool, true, false, cond, nat_eq, min, ◌&&◌, List, get_or, refl, sym, ap, subst, ◌∙◌, arith, ◌⊎◌, inl, inr, Some}
+use Rattle.std.proofs.Common.{true≢false, Result, Ok, Err, IfOk, OnOk, ◌≡◌, ◌≢◌, ℕ, ◌+◌, ◌<◌, ◌≤◌, Bool, true, false, cond, nat_eq, min, ◌&&◌, ◌||◌, List, get_or, refl, sym, ap, subst, ◌∙◌, arith, ◌⊎◌, inl, inr, Some}
 use Rattle.std.proofs.lemmas.Bool.Decides.{nat_tests}
 use Rattle.indexmap.specs.IndexMap.{IndexMap, get, Updates}
 use Rattle.plai_bdd.specs.Assignment.{Assignment}
@@ -7,14 +7,16 @@ use Rattle.plai_bdd.specs.declared.node.Node.{Node}
 use Rattle.plai_bdd.specs.declared.node.Node.TheVariants.{Leaf, Branch}
 use Rattle.plai_bdd.specs.declared.combine.Pair.{Pair}
 use Rattle.plai_bdd.specs.declared.change.Connective.{Connective}
+use Rattle.plai_bdd.specs.declared.change.Connective.TheVariants.{And, Or, Iff}
 use Rattle.plai_bdd.specs.declared.change.Change.{Change}
-use Rattle.plai_bdd.specs.declared.change.Placed.TheVariants.{At, Fixed}
-use Rattle.plai_bdd.specs.Change.{answer_of, placed, can_place, moved, changed, top_of}
+use Rattle.plai_bdd.specs.declared.change.Placed.TheVariants.{At, Fixed, Parted}
+use Rattle.plai_bdd.specs.Change.{absorbs, answer_of, placed, can_place, moved, changed, top_of}
+use Rattle.plai_bdd.specs.Tree.{value}
 use Rattle.plai_bdd.specs.Nodes.{place_of, put, tree_at}
-use Rattle.plai_bdd.specs.Table.{no_node, IsTable, IsGrown, IsSource, Answers, Adds, IsMemo, slot_of, leaf_answer, children_of, joined_place, joined_table, same_pair, least_of, function_of}
+use Rattle.plai_bdd.specs.Table.{no_node, IsTable, IsGrown, IsSource, Answers, Adds, IsMemo, slot_of, leaf_answer, is_absorbing, children_of, joined_place, joined_table, same_pair, least_of, function_of}
 use Rattle.plai_bdd.proofs.Adding.{Answers-grown, Adds-as, Adds-leaf, Adds-join}
 use Rattle.plai_bdd.proofs.Tables.{IsGrown-same, put_grown}
-use Rattle.plai_bdd.proofs.Splits.{IsSplit, top_at_most, top_is, leaf_is, children_split, top_fits, placed_at, placed_fixed, moved_more}
+use Rattle.plai_bdd.proofs.Splits.{IsSplit, top_at_most, top_is, leaf_is, children_split, top_fits, placed_at, placed_fixed, placed_parted, moved_more}
 
 answers_split : (c : Connective) (b : Bool) (x y z w : Bool) → answer_of c (cond b x y) (cond b z w) ≡ cond b (answer_of c x z) (answer_of c y w)
 answers_split c true x y z w = refl
@@ -23,19 +25,76 @@ answers_split c false x y z w = refl
 least_is : (m n : ℕ) → (min m n ≡ m) ⊎ (min m n ≡ n)
 least_is m n = grind arith
 
+and_false : (x : Bool) → (x && false) ≡ false
+and_false true = refl
+and_false false = refl
+
+or_true : (x : Bool) → (x || true) ≡ true
+or_true true = refl
+or_true false = refl
+
+-- an answer that decides the connective's, on the left and on the right
+absorbed_left : (c : Connective) (x y z : Bool) → absorbs c x ≡ true → answer_of c x y ≡ answer_of c x z
+absorbed_left And true y z h = absurd (true≢false (sym h))
+absorbed_left And false y z h = refl
+absorbed_left Or true y z h = refl
+absorbed_left Or false y z h = absurd (true≢false (sym h))
+absorbed_left Iff x y z h = absurd (true≢false (sym h))
+
+absorbed_right : (c : Connective) (x y z : Bool) → absorbs c z ≡ true → answer_of c x z ≡ answer_of c y z
+absorbed_right And x y true h = absurd (true≢false (sym h))
+absorbed_right And x y false h = and_false x ∙ sym (and_false y)
+absorbed_right Or x y true h = or_true x ∙ sym (or_true y)
+absorbed_right Or x y false h = absurd (true≢false (sym h))
+absorbed_right Iff x y z h = absurd (true≢false (sym h))
+
+-- a leaf that decides, on the left and on the right
+decides_left : (c : Connective) (a b : Node) (u v : Bool) → is_absorbing c a ≡ true → (64 ≤ slot_of a → u ≡ leaf_answer a)
+    → answer_of c (leaf_answer a) (leaf_answer b) ≡ answer_of c u v
+decides_left c (Leaf x) b u v h is = absorbed_left c x (leaf_answer b) v h ∙ ap (λ z. answer_of c z v) (sym (is (omega arith)))
+decides_left c (Branch s i j) b u v h is = absurd (true≢false (sym h))
+
+decides_right : (c : Connective) (a b : Node) (u v : Bool) → is_absorbing c b ≡ true → (64 ≤ slot_of b → v ≡ leaf_answer b)
+    → answer_of c (leaf_answer a) (leaf_answer b) ≡ answer_of c u v
+decides_right c a (Leaf y) u v h is = absorbed_right c (leaf_answer a) u y h ∙ ap (λ z. answer_of c u z) (sym (is (omega arith)))
+decides_right c a (Branch s i j) u v h is = absurd (true≢false (sym h))
+
+either_true : (a b : Bool) → (a || b) ≡ true → (a ≡ true) ⊎ (b ≡ true)
+either_true true b h = inl refl
+either_true false b h = inr h
+
 module _ (connective : Connective) (change : Change) (left right : List Node) (i j : ℕ) (a b : Node)
     (left_is : IsSource change left i) (right_is : IsSource change right j) (a_is : get_or left i no_node ≡ a) (b_is : get_or right j no_node ≡ b) where
   tops_are : min (top_of (tree_at left i)) (top_of (tree_at right j)) ≡ min (slot_of a) (slot_of b)
   tops_are = (λ x. min (top_is change left i a left_is a_is x) (top_is change right j b right_is b_is x))
 
+  -- a leaf whose answer is that of the two at each assignment
+  answered : (t : List Node) (node : Node) → IsTable t → node ≡ Leaf (answer_of connective (leaf_answer a) (leaf_answer b))
+      → ((at : Assignment) → answer_of connective (leaf_answer a) (leaf_answer b) ≡ function_of connective change left right i j at)
+      → Adds t (place_of node t) (put node t) (least_of change left right i j) (function_of connective change left right i j)
+  answered t node ok is all =
+      let x : Bool = answer_of connective (leaf_answer a) (leaf_answer b) in
+      let P : Node → Type 0 = λ n. Adds t (place_of n t) (put n t) (least_of change left right i j) (function_of connective change left right i j) in
+      subst P (sym is) (Adds-as (omega arith) all (Adds-leaf x t (least_of change left right i j) ok))
+
   -- two leaves
-  pub leaves : (t : List Node) (x : Bool) (slot : ℕ) → IsTable t → slot ≡ min (slot_of a) (slot_of b) → slot ≡ 64 → x ≡ answer_of connective (leaf_answer a) (leaf_answer b)
-      → Adds t (place_of (Leaf x) t) (put (Leaf x) t) (least_of change left right i j) (function_of connective change left right i j)
-  leaves t x slot ok slot_is e is =
+  pub leaves : (t : List Node) (node : Node) (slot : ℕ) → IsTable t → slot ≡ min (slot_of a) (slot_of b) → slot ≡ 64 → node ≡ Leaf (answer_of connective (leaf_answer a) (leaf_answer b))
+      → Adds t (place_of node t) (put node t) (least_of change left right i j) (function_of connective change left right i j)
+  leaves t node slot ok slot_is e is =
       let one = leaf_is change left i a left_is a_is (omega arith) in
       let two = leaf_is change right j b right_is b_is (omega arith) in
-      let all : (at : Assignment) → x ≡ function_of connective change left right i j at = λ at. is ∙ (λ z. answer_of connective (sym (one (changed change at)) z) (sym (two (changed change at)) z)) in
-      Adds-as (omega arith) all (Adds-leaf x t (least_of change left right i j) ok)
+      answered t node ok is (λ at z. answer_of connective (sym (one (changed change false at)) z) (sym (two (changed change true at)) z))
+
+  -- a leaf that decides
+  pub decided : (t : List Node) (node : Node) (r : Bool) → IsTable t → r ≡ (is_absorbing connective a || is_absorbing connective b) → r ≡ true
+      → node ≡ Leaf (answer_of connective (leaf_answer a) (leaf_answer b))
+      → Adds t (place_of node t) (put node t) (least_of change left right i j) (function_of connective change left right i j)
+  decided t node r ok r_is holds is = answered t node ok is (λ at. by at (either_true _ _ (sym r_is ∙ holds)))
+    where
+      by : (at : Assignment) → (is_absorbing connective a ≡ true) ⊎ (is_absorbing connective b ≡ true)
+          → answer_of connective (leaf_answer a) (leaf_answer b) ≡ function_of connective change left right i j at
+      by at (inl h) = decides_left connective a b _ _ h (λ leaf. leaf_is change left i a left_is a_is leaf (changed change false at))
+      by at (inr h) = decides_right connective a b _ _ h (λ leaf. leaf_is change right j b right_is b_is leaf (changed change true at))
 
   module _ (slot : ℕ) (slot_is : slot ≡ min (slot_of a) (slot_of b)) (other : slot ≢ 64) (cl cr : ℕ × ℕ) (cl_is : cl ≡ children_of a slot i) (cr_is : cr ≡ children_of b slot j) where
     lt : slot < 64
@@ -69,22 +128,38 @@ module _ (connective : Connective) (change : Change) (left right : List Node) (i
         by (inl e) = omega (arith, left_split.high_below (top_is change left i a left_is a_is ∙ sym e ∙ sym slot_is), right_split.high_within)
         by (inr e) = omega (arith, right_split.high_below (top_is change right j b right_is b_is ∙ sym e ∙ sym slot_is), left_split.high_within)
 
+    pub parted_falls : cl.0 + cr.1 < i + j
+    parted_falls = by (least_is (slot_of a) (slot_of b))
+      where
+        by : (min (slot_of a) (slot_of b) ≡ slot_of a) ⊎ (min (slot_of a) (slot_of b) ≡ slot_of b) → cl.0 + cr.1 < i + j
+        by (inl e) = omega (arith, left_split.low_below (top_is change left i a left_is a_is ∙ sym e ∙ sym slot_is), right_split.high_within)
+        by (inr e) = omega (arith, right_split.high_below (top_is change right j b right_is b_is ∙ sym e ∙ sym slot_is), left_split.low_within)
+
     low_least : moved change slot + 1 ≤ least_of change left right cl.0 cr.0
     low_least = moved_more change slot _ can_be (omega (arith, left_split.low_top, right_split.low_top))
 
     high_least : moved change slot + 1 ≤ least_of change left right cl.1 cr.1
     high_least = moved_more change slot _ can_be (omega (arith, left_split.high_top, right_split.high_top))
 
+    parted_least : moved change slot + 1 ≤ least_of change left right cl.0 cr.1
+    parted_least = moved_more change slot _ can_be (omega (arith, left_split.low_top, right_split.high_top))
+
     least_here : least_of change left right i j ≡ moved change slot
     least_here = ap (moved change) (tops_are ∙ sym slot_is)
 
-    -- the function at the two, by the children's
-    split_at : (at : Assignment) → function_of connective change left right i j at
-        ≡ cond (changed change at slot) (function_of connective change left right cl.1 cr.1 at)
+    -- the function at the two, by the children's, where the slot's answers on the two sides are known
+    split_at : (at : Assignment) (b c : Bool) → changed change false at slot ≡ b → changed change true at slot ≡ c → function_of connective change left right i j at
+        ≡ answer_of connective (cond b (value (tree_at left cl.1) (changed change false at)) (value (tree_at left cl.0) (changed change false at)))
+        (cond c (value (tree_at right cr.1) (changed change true at)) (value (tree_at right cr.0) (changed change true at)))
+    split_at at b c e f =
+        (λ x. answer_of connective (left_split.splits (changed change false at) x) (right_split.splits (changed change true at) x))
+        ∙ (λ x. answer_of connective (cond (e x) (value (tree_at left cl.1) (changed change false at)) (value (tree_at left cl.0) (changed change false at)))
+        (cond (f x) (value (tree_at right cr.1) (changed change true at)) (value (tree_at right cr.0) (changed change true at))))
+
+    split_alike : (at : Assignment) (b : Bool) → ((side : Bool) → changed change side at slot ≡ b) → function_of connective change left right i j at
+        ≡ cond b (function_of connective change left right cl.1 cr.1 at)
         (function_of connective change left right cl.0 cr.0 at)
-    split_at at =
-        (λ x. answer_of connective (left_split.splits (changed change at) x) (right_split.splits (changed change at) x))
-        ∙ answers_split connective (changed change at slot) _ _ _ _
+    split_alike at b e = split_at at b b (e false) (e true) ∙ answers_split connective b _ _ _ _
 
     -- a slot that is placed
     pub step_placed : (m p q : ℕ) (t u v : List Node) → placed change slot ≡ At m
@@ -98,8 +173,7 @@ module _ (connective : Connective) (change : Change) (left right : List Node) (i
         let joins : (at : Assignment) → function_of connective change left right i j at
         ≡ cond (at m) (function_of connective change left right cl.1 cr.1 at)
         (function_of connective change left right cl.0 cr.0 at) =
-        λ at. split_at at ∙ ap (λ c. cond c (function_of connective change left right cl.1 cr.1 at)
-        (function_of connective change left right cl.0 cr.0 at)) (here.2 at) in
+        λ at. split_alike at (at m) (λ side. here.2 side at) in
         Adds-as (omega (arith, least_here, here.0)) (λ at. refl) (Adds-join low2 high2 here.1 joins)
 
     -- a slot that is fixed
@@ -108,16 +182,22 @@ module _ (connective : Connective) (change : Change) (left right : List Node) (i
         → Adds t p u (least_of change left right i j) (function_of connective change left right i j)
     step_true p t u is done =
         let here = placed_fixed change slot true is in
-        Adds-as (omega (arith, least_here, high_least)) (λ at. sym (split_at at ∙ ap (λ c. cond c (function_of connective change left right cl.1 cr.1 at)
-        (function_of connective change left right cl.0 cr.0 at)) (here.1 at))) done
+        Adds-as (omega (arith, least_here, high_least)) (λ at. sym (split_alike at true (λ side. here.1 side at))) done
 
     pub step_false : (p : ℕ) (t u : List Node) → placed change slot ≡ Fixed false
         → Adds t p u (least_of change left right cl.0 cr.0) (function_of connective change left right cl.0 cr.0)
         → Adds t p u (least_of change left right i j) (function_of connective change left right i j)
     step_false p t u is done =
         let here = placed_fixed change slot false is in
-        Adds-as (omega (arith, least_here, low_least)) (λ at. sym (split_at at ∙ ap (λ c. cond c (function_of connective change left right cl.1 cr.1 at)
-        (function_of connective change left right cl.0 cr.0 at)) (here.1 at))) done
+        Adds-as (omega (arith, least_here, low_least)) (λ at. sym (split_alike at false (λ side. here.1 side at))) done
+
+    -- a slot that is false on the left and true on the right
+    pub step_parted : (p : ℕ) (t u : List Node) → placed change slot ≡ Parted
+        → Adds t p u (least_of change left right cl.0 cr.1) (function_of connective change left right cl.0 cr.1)
+        → Adds t p u (least_of change left right i j) (function_of connective change left right i j)
+    step_parted p t u is done =
+        let here = placed_parted change slot is in
+        Adds-as (omega (arith, least_here, parted_least)) (λ at. sym (split_at at false true (here.1 false at) (here.1 true at))) done
 
 -- what is noted stays true as the table grows
 pub memo_grown : {S : Type 0} (connective : Connective) (change : Change) (left right : List Node) (memo : IndexMap Pair ℕ S) (t u : List Node)

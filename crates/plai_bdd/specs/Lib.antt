@@ -1,6 +1,8 @@
 pub mod Assignment
+pub mod Chain
 pub mod Change
 pub mod Nodes
+pub mod Product
 pub mod Props
 pub mod Slots
 pub mod Table

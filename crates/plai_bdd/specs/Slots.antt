@@ -10,10 +10,6 @@ unfoldable pub all_hold : ℕ → ℕ → Assignment → Bool
 all_hold mask zero at = true
 all_hold mask (suc n) at = all_hold mask n at && (not (has_slot mask n) || at n)
 
--- the function, and that one slot is true if it is in the set
-abbrev pub and_slot : ℕ → ℕ → (Assignment → Bool) → Assignment → Bool
-and_slot mask slot f at = f at && (not (has_slot mask slot) || at slot)
-
 -- the function, or what it is at some answer of one slot if that is in the set
 abbrev pub some_slot : ℕ → ℕ → (Assignment → Bool) → Assignment → Bool
 some_slot mask slot f at = cond (has_slot mask slot) (f (with_slot at slot false) || f (with_slot at slot true)) (f at)

@@ -8,7 +8,7 @@ use Rattle.plai_bdd.specs.declared.change.Change.{Change}
 use Rattle.indexmap.specs.IndexMap.{IndexMap, get}
 use Rattle.plai_bdd.specs.Assignment.{Assignment}
 use Rattle.plai_bdd.specs.Tree.{value, IsReduced}
-use Rattle.plai_bdd.specs.Change.{can_place, moved, AllSlots, top_of, combined}
+use Rattle.plai_bdd.specs.Change.{absorbs, can_place, moved, AllSlots, top_of, combined}
 use Rattle.plai_bdd.specs.Nodes.{tree_of_node, trees_of, tree_at, build, place_of, put}
 
 abbrev pub no_node : Node
@@ -59,6 +59,11 @@ slot_of (Branch slot low high) = slot
 abbrev pub leaf_answer : Node → Bool
 leaf_answer (Leaf answer) = answer
 leaf_answer (Branch slot low high) = false
+
+-- the node is a leaf whose answer decides the connective's
+abbrev pub is_absorbing : Connective → Node → Bool
+is_absorbing connective (Leaf answer) = absorbs connective answer
+is_absorbing connective (Branch slot low high) = false
 
 -- the children of the node at the place, where its slot is this one
 abbrev pub children_of : Node → ℕ → ℕ → ℕ × ℕ

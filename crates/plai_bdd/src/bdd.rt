@@ -1,16 +1,19 @@
-ghost use Rattle.std.specs.Prelude.{◌≡◌, ◌<◌, ◌≤◌, ◌+◌, ◌-◌, ◌^◌, ◌&&◌, ◌||◌, ◌↔◌, ◌++◌, ℕ, IsTrue, IfOk, OnOk, OnErr, length};
+ghost use Rattle.std.specs.Prelude.{◌≡◌, ◌<◌, ◌≤◌, ◌+◌, ◌-◌, ◌^◌, ◌&&◌, ◌||◌, ◌↔◌, ◌++◌, ℕ, false, true, IsTrue, IfOk, OnOk, OnErr, length};
 ghost use Rattle.std.specs.Bool.{beq};
 ghost use Rattle.plai_base.specs.Mask.{has_slot};
 ghost use Rattle.plai_bdd.specs.Assignment.{Assignment, IsFree, with_slot};
 ghost use Rattle.plai_bdd.specs.Change.{IsPlaceable, combined};
 ghost use Rattle.plai_bdd.specs.Nodes.{AreSameFunction, HaveSameModels, IsCanonical, IsFunction, IsOver, holds, is_model, root_of};
+ghost use Rattle.plai_bdd.specs.Product.{together};
 ghost use Rattle.plai_bdd.specs.Text.{tree_text};
-ghost use Rattle.plai_bdd.specs.Slots.{AllTrue, Somewhere, and_slot, conjunction, quantified, some_slot};
+ghost use Rattle.plai_bdd.specs.Slots.{AllTrue, Somewhere, conjunction, quantified, some_slot};
 
+use crate::chain::chain;
 use crate::change::{Change, Connective};
 use crate::combine::{Pair, combine, has_branch};
 use crate::node::Node;
 use crate::print::write_node;
+use crate::product::and_exists;
 use crate::walk::{answer_at, either, implies_at, root_of_either};
 use indexmap::{IndexMap, IndexSet};
 use plai_base::Mask;
@@ -140,29 +143,17 @@ impl Bdd {
         Ok(Bdd { nodes })
     }
 
-    /// The function, and that a slot is true if it is in the set.
-    fn and_slot(self, alloc: Global, all: Mask, slot: u32) -> Result<Bdd, AllocError>
-        requires slot_fits { slot < 64 }
-        requires canonical { IsCanonical self }
-        ensures { IfOk result (λ b. IsFunction b (and_slot all slot (holds self))) }
-    {
-        if all.contains(slot) {
-            let variable = Bdd::variable(alloc, slot)?;
-            self.and(alloc, &variable)
-        } else {
-            Ok(self)
-        }
-    }
-
     /// The function that all slots of the set are true.
     pub fn all_of(alloc: Global, all: Mask) -> Result<Bdd, AllocError>
         ensures { IfOk result (λ b. IsFunction b (conjunction all)) }
     {
-        let mut conjunction = Bdd::constant(alloc, true)?;
-        for k in 0..64 {
-            conjunction = conjunction.and_slot(alloc, all, k)?;
+        match all.lowest() {
+            None => Bdd::constant(alloc, true),
+            Some(_) => {
+                let nodes = chain(alloc, all)?;
+                Ok(Bdd { nodes })
+            }
         }
-        Ok(conjunction)
     }
 
     /// The function that both are true, or neither.
@@ -183,16 +174,28 @@ impl Bdd {
         variable.iff(alloc, &conjunction)
     }
 
+    /// Whether some node branches on the slot.
+    pub(crate) fn branches_on(&self, slot: u32) -> bool
+        ensures { result ≡ false → IsFree (holds self.now) slot }
+    {
+        has_branch(self.nodes.as_slice(), slot)
+    }
+
+    /// The function that is true where this one is at some answer of the slot.
+    pub(crate) fn exists_one(&self, alloc: Global, slot: u32) -> Result<Bdd, AllocError>
+        ensures { IfOk result (λ b. IsFunction b (λ at. holds self.now (with_slot at slot false) || holds self.now (with_slot at slot true))) }
+    {
+        self.combined(alloc, self, Connective::Or, Change::Apart(slot))
+    }
+
     /// The function, or what it is at some answer of a slot if that is in the set.
     fn exists_slot(self, alloc: Global, slots: Mask, slot: u32) -> Result<Bdd, AllocError>
         requires slot_fits { slot < 64 }
         requires canonical { IsCanonical self }
         ensures { IfOk result (λ b. IsFunction b (some_slot slots slot (holds self))) }
     {
-        if slots.contains(slot) && has_branch(self.nodes.as_slice(), slot) {
-            let low = self.restrict(alloc, slot, false)?;
-            let high = self.restrict(alloc, slot, true)?;
-            low.or(alloc, &high)
+        if slots.contains(slot) && self.branches_on(slot) {
+            self.exists_one(alloc, slot)
         } else {
             Ok(self)
         }
@@ -210,6 +213,17 @@ impl Bdd {
             rest = rest.exists_slot(alloc, slots, k)?;
         }
         Ok(rest)
+    }
+
+    /// The function that is true where all of these are, at some answers of the slots of the set: the relational product of
+    /// Burch, Clarke and Long, "Symbolic Model Checking with Partitioned Transition Relations", VLSI 1991. The functions are joined
+    /// only where a slot that goes asks for it, so that none is over more slots than it must be.
+    pub fn and_exists(alloc: Global, functions: Vec<Bdd>, slots: Mask) -> Result<Bdd, AllocError>
+        ensures function { IfOk result (λ b. IsFunction b (quantified slots (together functions.items))) }
+        ensures meaning { IfOk result (λ b. (at : Assignment) → IsTrue (holds b at) ↔ Somewhere slots (together functions.items) at) }
+        ensures free { IfOk result (λ b. (slot : ℕ) → slot < 64 → IsTrue (has_slot slots slot) → IsFree (holds b) slot) }
+    {
+        and_exists(alloc, functions, slots)
     }
 
     /// Whether each assignment that makes this function true makes the other true. Nothing is allocated.

@@ -1,5 +1,5 @@
 ghost use Rattle.std.specs.Prelude.{◌≡◌};
-ghost use Rattle.plai_bdd.specs.Change.{answer_of, can_place, placed};
+ghost use Rattle.plai_bdd.specs.Change.{absorbs, answer_of, can_place, placed};
 
 /// A connective of two answers.
 #[derive(Clone, Copy, Debug)]
@@ -20,22 +20,35 @@ impl Connective {
             Connective::Iff => left == right,
         }
     }
+
+    /// Whether this answer on one side decides what it makes of the two, whatever the other is.
+    pub fn absorbs(self, answer: bool) -> bool
+        ensures { result ≡ absorbs self answer }
+    {
+        match self {
+            Connective::And => !answer,
+            Connective::Or => answer,
+            Connective::Iff => false,
+        }
+    }
 }
 
-/// What becomes of the slots.
+/// What becomes of the slots. The slot of `Apart` is false in the left function and true in the right one.
 #[derive(Clone, Copy, Debug)]
 pub enum Change {
     Keep,
     Fix { slot: u32, answer: bool },
+    Apart(u32),
     Raise(u32),
     Lower(u32),
 }
 
-/// Where a slot comes to stand.
+/// Where a slot comes to stand, or with which answer it goes: one for both functions, or false for the left and true for the right.
 #[derive(Clone, Copy, Debug)]
 pub enum Placed {
     At(u32),
     Fixed(bool),
+    Parted,
 }
 
 impl Change {
@@ -52,6 +65,13 @@ impl Change {
             } => {
                 if slot == fixed {
                     Placed::Fixed(answer)
+                } else {
+                    Placed::At(slot)
+                }
+            }
+            Change::Apart(parted) => {
+                if slot == parted {
+                    Placed::Parted
                 } else {
                     Placed::At(slot)
                 }

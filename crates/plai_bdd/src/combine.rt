@@ -1,8 +1,10 @@
-ghost use Rattle.std.specs.Prelude.{◌≡◌, ◌<◌, ◌≤◌, Bool, IfOk, OnOk, Some, length, get_or, min, nat_eq};
+ghost use Rattle.std.specs.Prelude.{◌≡◌, ◌<◌, ◌≤◌, Bool, IfOk, OnOk, Some, length, get_or, min, nat_eq, ◌||◌};
 ghost use Rattle.std.specs.List.{list_any};
 ghost use Rattle.indexmap.specs.IndexMap.{get, Updates};
 ghost use Rattle.indexmap.specs.IndexSet.{keys};
-ghost use Rattle.plai_bdd.specs.Table.{Adds, IsMemo, IsSource, IsTable, children_of, function_of, joined_place, joined_table, least_of, no_node, same_pair, slot_of as slot_of_node, leaf_answer as leaf_answer_of};
+ghost use Rattle.plai_bdd.specs.declared.node.Node.TheVariants.{Leaf};
+ghost use Rattle.plai_bdd.specs.Change.{answer_of};
+ghost use Rattle.plai_bdd.specs.Table.{Adds, IsMemo, IsSource, IsTable, children_of, function_of, is_absorbing, joined_place, joined_table, least_of, no_node, same_pair, slot_of as slot_of_node, leaf_answer as leaf_answer_of};
 
 use crate::change::{Change, Connective, Placed};
 use crate::node::Node;
@@ -106,7 +108,31 @@ pub fn leaf_answer(node: Node) -> bool
     }
 }
 
-/// Adds the function of a pair, and notes where it is.
+/// Whether the node is a leaf whose answer decides the connective's.
+fn is_absorbing(connective: Connective, node: Node) -> bool
+    ensures { result ≡ is_absorbing connective node }
+{
+    match node {
+        Node::Leaf(answer) => connective.absorbs(answer),
+        Node::Branch { .. } => false,
+    }
+}
+
+/// Whether one of the nodes is a leaf whose answer decides the connective's.
+fn is_decided(connective: Connective, a: Node, b: Node) -> bool
+    ensures { result ≡ (is_absorbing connective a || is_absorbing connective b) }
+{
+    is_absorbing(connective, a) || is_absorbing(connective, b)
+}
+
+/// The leaf of two leaves' answers, joined. Where one leaf decides, the other node may be any.
+fn joined_leaf(connective: Connective, a: Node, b: Node) -> Node
+    ensures { result ≡ Leaf (answer_of connective (leaf_answer_of a) (leaf_answer_of b)) }
+{
+    Node::Leaf(connective.answer(leaf_answer(a), leaf_answer(b)))
+}
+
+/// Adds the function of a pair, and notes where it is, except where a leaf decides.
 #[cycle(combine)]
 pub fn combine(
     connective: Connective,
@@ -125,6 +151,11 @@ pub fn combine(
         (least_of change left.now right.now pair.left pair.right) (function_of connective change left.now right.now pair.left pair.right)) }
     ensures noted { OnOk result (IsMemo connective change left.now right.now memo.new (keys table.new)) }
 {
+    let a = node_at(left, pair.left);
+    let b = node_at(right, pair.right);
+    if is_decided(connective, a, b) {
+        return place(table, joined_leaf(connective, a, b));
+    }
     if let Some(known) = recall(memo, pair) {
         return Ok(known);
     }
@@ -156,10 +187,7 @@ fn combine_new(
     let b = node_at(right, pair.right);
     let slot = first_slot(a, b);
     if slot == 64 {
-        return place(
-            table,
-            Node::Leaf(connective.answer(leaf_answer(a), leaf_answer(b))),
-        );
+        return place(table, joined_leaf(connective, a, b));
     }
     let (left_low, left_high) = children(a, slot, pair.left);
     let (right_low, right_high) = children(b, slot, pair.right);
@@ -178,6 +206,13 @@ fn combine_new(
             } else {
                 combine(connective, change, left, right, low, table, memo)
             }
+        }
+        Placed::Parted => {
+            let apart = Pair {
+                left: left_low,
+                right: right_high,
+            };
+            combine(connective, change, left, right, apart, table, memo)
         }
         Placed::At(moved) => {
             let low_place = combine(connective, change, left, right, low, table, memo)?;

@@ -3,10 +3,12 @@
 #![tactic(auto)]
 
 mod bdd;
+mod chain;
 mod change;
 mod combine;
 mod node;
 mod print;
+mod product;
 mod table;
 #[cfg(test)]
 mod tests;

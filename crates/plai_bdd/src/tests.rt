@@ -111,3 +111,19 @@ fn a_slot_is_equivalent_to_a_conjunction(rt: HostRuntime) -> Result<(), Fail> {
     assert_eq!(rt; thirty.implies(&thirty), true);
     Ok(())
 }
+
+#[test]
+fn pairs_of_slots_that_stand_far_apart_are_joined_one_by_one(rt: HostRuntime) -> Result<(), Fail> {
+    let alloc = rt.alloc();
+    let first = Bdd::iff_all(alloc, 48, slots(0, 24))?;
+    let second = Bdd::iff_all(alloc, 49, slots(24, 48))?;
+    let mut functions = vec![in alloc; first, second]?;
+    for slot in 0..24 {
+        functions.push(Bdd::iff_all(alloc, slot, Mask::of(slot + 24))?)?;
+    }
+    assert_eq!(rt;
+        Bdd::and_exists(alloc, functions, slots(0, 48))?,
+        Bdd::iff_all(alloc, 48, Mask::of(49))?
+    );
+    Ok(())
+}

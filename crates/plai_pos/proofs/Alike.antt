@@ -1,19 +1,18 @@
 -- Functions of the first slots, and their models.
-use Rattle.std.proofs.Common.{◌≡◌, ◌≢◌, ℕ, ◌^◌, ◌<◌, ◌≤◌, Bool, true, false, cond, nat_lt, IsTrue, List, ◌⊎◌, inl, inr, sym, ap, ◌∙◌, arith}
+use Rattle.std.proofs.Common.{◌≡◌, ◌≢◌, ℕ, ◌^◌, ◌<◌, ◌≤◌, Bool, true, false, cond, nat_lt, IsTrue, List, ◌⊎◌, sym, ap, ◌∙◌, arith}
 use Rattle.std.proofs.lemmas.Bool.{ne_eqb}
 use Rattle.std.proofs.lemmas.Bool.Decides.{nat_tests}
-use Rattle.plai_base.specs.Mask.{has_slot, all_true}
+use Rattle.plai_base.specs.Mask.{all_true}
 use Rattle.plai_base.specs.Sets.{has}
 use Rattle.plai_base.proofs.Sets.{same_tests, has-kept}
 use Rattle.plai_base.proofs.Bits.{top_lt}
 use Rattle.plai_bdd.specs.declared.node.Node.{Node}
 use Rattle.plai_bdd.specs.Assignment.{Assignment, IsFree, with_slot}
 use Rattle.plai_bdd.specs.Nodes.{holds, is_model, IsCanonical, IsFunction, IsOver}
-use Rattle.plai_bdd.specs.Slots.{Somewhere}
 use Rattle.plai_bdd.proofs.Depends.{holds-below}
 use Rattle.plai_assignments.specs.Assignments.{IsPositive}
 use Rattle.plai_assignments.proofs.Parts.{value_kept}
-use Rattle.plai_pos.specs.Values.{models_of, IsDiagramOf}
+use Rattle.plai_pos.specs.Values.{models_of, IsDiagram, IsDiagramOf, IsPositiveBelow}
 
 -- where the function is true, it is true at each assignment that has the same first slots
 abbrev pub TrueAlike : ℕ → (Assignment → Bool) → Type 0
@@ -33,6 +32,10 @@ over_of n nodes h = free_from n (holds nodes) h
 
 pub alike_of : (n : ℕ) (nodes : List Node) → IsCanonical nodes → IsOver n nodes → TrueAlike n (holds nodes)
 alike_of n nodes c over at other same t = sym (holds-below nodes n c over at other same) ∙ t
+
+-- a diagram's function
+pub positive_function : (v : ℕ) (nodes : List Node) → IsDiagram v nodes → IsPositiveBelow v (holds nodes)
+positive_function v nodes d = record { over = holds-below nodes v d.canonical d.over; top = d.top }
 
 pub alike_as : (n : ℕ) (nodes : List Node) (f : Assignment → Bool) → IsFunction nodes f → TrueAlike n f → TrueAlike n (holds nodes)
 alike_as n nodes f h a at other same t = h.answers other ∙ a at other same (sym (h.answers at) ∙ t)
@@ -63,23 +66,3 @@ spliced_high n low high slot l = let e : nat_lt slot n ≡ false = grind (arith,
 
 pub below_or_from : (a b : ℕ) → (a < b) ⊎ (b ≤ a)
 below_or_from a b = grind arith
-
--- what is true somewhere stays so where the other slots stay
-module _ (mask n : ℕ) (f : Assignment → Bool) (room : n ≤ 64) (a : TrueAlike n f) (at other : Assignment)
-    (same : (slot : ℕ) → slot < n → IsTrue (has_slot mask slot) ⊎ (at slot ≡ other slot)) where
-  differ_at : (there : Assignment) → ((slot : ℕ) → (there slot ≡ at slot) ⊎ ((slot < 64) × IsTrue (has_slot mask slot)))
-      → (slot : ℕ) → (spliced n there other slot ≡ other slot) ⊎ ((slot < 64) × IsTrue (has_slot mask slot))
-  differ_at there d slot = by (below_or_from slot n)
-    where
-      by : (slot < n) ⊎ (n ≤ slot) → (spliced n there other slot ≡ other slot) ⊎ ((slot < 64) × IsTrue (has_slot mask slot))
-      by (inl l) = low (same slot l) (d slot)
-        where
-          low : IsTrue (has_slot mask slot) ⊎ (at slot ≡ other slot) → (there slot ≡ at slot) ⊎ ((slot < 64) × IsTrue (has_slot mask slot))
-              → (spliced n there other slot ≡ other slot) ⊎ ((slot < 64) × IsTrue (has_slot mask slot))
-          low (inl h) e = inr (omega arith, h)
-          low (inr h) (inl e) = inl (spliced_low n there other slot l ∙ e ∙ h)
-          low (inr h) (inr e) = inr e
-      by (inr l) = inl (spliced_high n there other slot l)
-
-  pub somewhere_alike : Somewhere mask f at → Somewhere mask f other
-  somewhere_alike (there, (d, t)) = (spliced n there other, (differ_at there d, a there (spliced n there other) (λ slot l. sym (spliced_low n there other slot l)) t))

@@ -17,7 +17,7 @@ use Rattle.plai_assignments.specs.Assignments.{argument_in, allows, allows_all, 
 use Rattle.plai_assignments.proofs.Parts.{all_of, all_from}
 use Rattle.plai_assignments.proofs.Properties.{value_describe}
 use Rattle.plai_pos.specs.Values.{models_of, IsDiagramOf}
-use Rattle.plai_pos.specs.Unified.{allowed, allowed_all}
+use Rattle.plai_pos.specs.TermSlots.{allowed, allowed_all}
 use Rattle.plai_pos.proofs.Alike.{alike_as, diagram_of}
 use Rattle.plai_pos.proofs.Masks.{conjunction-insert}
 

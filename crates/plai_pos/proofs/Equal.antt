@@ -1,23 +1,27 @@
 -- The order of values.
-use Rattle.std.proofs.Common.{◌≡◌, ℕ, ◌+◌, ◌^◌, ◌<◌, Bool, true, false, ◌||◌, List, IsTrue, ◌↔◌, refl, sym, ap, ◌∙◌, subst}
+use Rattle.std.proofs.Common.{◌≡◌, ℕ, ◌^◌, ◌<◌, Bool, true, false, ◌||◌, List, IsTrue, ◌↔◌, refl, sym, ap, ◌∙◌, subst}
 use Rattle.plai_base.specs.Sets.{has}
 use Rattle.plai_base.proofs.Sets.{has_kept, kept_has, has-kept, kept_same}
 use Rattle.plai_bdd.specs.declared.node.Node.{Node}
 use Rattle.plai_bdd.specs.Nodes.{holds, is_model, IsFunction, IsOver}
+use Rattle.plai_bdd.specs.Product.{together}
 use Rattle.plai_assignments.specs.Assignments.{IsPositive, join_of}
 use Rattle.plai_assignments.specs.Groundness.{Leq}
 use Rattle.plai_assignments.proofs.Laws.{value_of_positive}
 use Rattle.plai_assignments.proofs.Order.{value_join}
 use Rattle.plai_pos.specs.declared.value.Value.{Value}
 use Rattle.plai_pos.specs.declared.value.State.{State}
-use Rattle.plai_pos.specs.Values.{value_of, models_of, IsDiagramOf}
+use Rattle.plai_pos.specs.Values.{value_of, models_of, IsDiagram, IsDiagramOf, IsPositiveBelow}
 use Rattle.plai_pos.proofs.Alike.{TrueAlike, alike_of, alike_as, diagram_of, positive_of}
 
 pub value_positive : (v : Value) → IsPositive v.arity (models_of v.arity v.diagram)
 value_positive v = positive_of v.arity v.diagram v.top
 
-pub state_positive : (s : State) → IsPositive (s.arity + s.variables) (models_of (s.arity + s.variables) s.diagram)
-state_positive s = positive_of (s.arity + s.variables) s.diagram s.top
+pub value_diagram : (v : Value) → IsDiagram v.arity v.diagram
+value_diagram v = record { canonical = v.canonical; over = v.over; top = v.top }
+
+pub state_positive : (s : State) → IsPositiveBelow s.variables (together s.factors.items)
+state_positive s = record { over = s.over; top = s.top }
 
 pub is_value : (v : Value) (n : ℕ) → v.arity ≡ n → Leq n (value_of v) (value_of v)
 is_value v n e = subst (λ k. Leq k (value_of v) (value_of v)) e (value_of_positive (value_positive v))

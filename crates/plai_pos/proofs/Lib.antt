@@ -1,6 +1,8 @@
 pub mod Alike
 pub mod Allowed
+pub mod Determined
 pub mod Equal
+pub mod Factors
 pub mod Literals
 pub mod Masks
 pub mod Printed

@@ -2,14 +2,11 @@
 use Rattle.std.proofs.Common.{◌≡◌, ◌≢◌, ℕ, ◌+◌, ◌^◌, ◌<◌, ◌≤◌, true, false, nat_eq, ◌&&◌, bit_or, ◌↔◌, IsTrue, List, length, take, drop, ◌-◌, ◌⊎◌, inl, inr, sym, ap, subst, ◌∙◌, arith}
 use Rattle.std.specs.Int.{bit_at}
 use Rattle.std.proofs.lemmas.Bool.{eqb-true, eq-eqb, and_parts, and_from}
-use Rattle.std.proofs.lemmas.List.{length-drop, take_all}
 use Rattle.std.proofs.lemmas.Nat.Bits.{bit_at_or, bit_at-zero, bit_at-pow_same, bit_at-pow_other, bit_at-lt}
 use Rattle.plai_base.specs.Mask.{has_slot, mask_of}
-use Rattle.plai_base.specs.Sets.{has_some}
 use Rattle.plai_base.proofs.Sets.{same_tests}
 use Rattle.plai_bdd.specs.Assignment.{Assignment}
 use Rattle.plai_bdd.specs.Slots.{conjunction}
-use Rattle.plai_pos.specs.Unified.{AreUnused}
 use Rattle.plai_bdd.proofs.Slots.{all_hold-Decides}
 
 pub no_slots : (slot : ℕ) → has_slot 0 slot ≡ false
@@ -80,9 +77,6 @@ range_more mask next first end le e h slot = (
     up p (inl same) = subst (λ k. IsTrue (has_slot (bit_or mask (mask_of end)) k)) (sym same) (slot_here mask end)
     up p (inr other) = slot_there mask end slot ((h slot).1 (p.0, omega (arith, p.1, other)))
 
-pub range_at : (mask first end low high : ℕ) → first ≡ low → end ≡ high → IsRange mask first end → IsRange mask low high
-range_at mask first end low high e f h = subst (IsRange mask low) f (subst (λ k. IsRange mask k end) e h)
-
 pub only_slot : (slot k : ℕ) → IsTrue (has_slot (mask_of slot) k) → k ≡ slot
 only_slot slot k h = by (same_or_not k slot)
   where
@@ -99,27 +93,3 @@ conjunction-alike mask at other same =
     same_tests (conjunction mask at) (conjunction mask other)
     (λ h. (all_hold-Decides mask 64 other).1 (λ k l has. sym (same k has) ∙ (all_hold-Decides mask 64 at).0 h k l has))
     (λ h. (all_hold-Decides mask 64 at).1 (λ k l has. same k has ∙ (all_hold-Decides mask 64 other).0 h k l has))
-
-pub unused_without : (sets : List ℕ) (end set next : ℕ) → next ≡ set → AreUnused sets end set → AreUnused sets (end + 1) next
-unused_without sets end set next e h = record {
-  before = λ slot t. omega (arith, h.before slot (subst (λ m. IsTrue (has_slot m slot)) e t));
-  unused = λ slot t. h.unused slot (subst (λ m. IsTrue (has_slot m slot)) e t);
-}
-
-pub unused_with : (sets : List ℕ) (end set next : ℕ) → has_some sets (λ mask. has_slot mask end) ≡ false → next ≡ bit_or set (mask_of end) → AreUnused sets end set → AreUnused sets (end + 1) next
-unused_with sets end set next none e h = record {
-  before = λ slot t. by slot (slot_or set end slot (subst (λ m. IsTrue (has_slot m slot)) e t));
-  unused = λ slot t. no_set slot (slot_or set end slot (subst (λ m. IsTrue (has_slot m slot)) e t));
-}
-  where
-    by : (slot : ℕ) → IsTrue (has_slot set slot) ⊎ (slot ≡ end) → slot < end + 1
-    by slot (inl t) = omega (arith, h.before slot t)
-    by slot (inr q) = omega (arith, q)
-
-    no_set : (slot : ℕ) → IsTrue (has_slot set slot) ⊎ (slot ≡ end) → has_some sets (λ mask. has_slot mask slot) ≡ false
-    no_set slot (inl t) = h.unused slot t
-    no_set slot (inr q) = ap (λ k. has_some sets (λ mask. has_slot mask k)) q ∙ none
-
--- the end of a list, as a slice of it
-pub tail_is : (xs ys : List ℕ) (i : ℕ) → xs ≡ ys → take (length xs - i) (drop i xs) ≡ drop i ys
-tail_is xs ys i e = take_all (length xs - i) (drop i xs) (omega (arith, length-drop {A = ℕ} i xs)) ∙ ap (drop i) e

@@ -1,11 +1,12 @@
 -- What the actions make of diagrams.
-use Rattle.std.proofs.Common.{◌≡◌, ℕ, ◌+◌, ◌-◌, ◌⊎◌, inl, inr, ◌/◌, ◌^◌, ◌<◌, Bool, true, false, not, cond, ◌&&◌, ◌||◌, ◌↔◌, IsTrue, List, filter, length, get_or, Option, Some, None, is_some, refl, sym, ap, ◌∙◌, arith}
+use Rattle.std.proofs.Common.{◌≡◌, ℕ, ◌+◌, ◌-◌, ◌⊎◌, inl, inr, ◌/◌, ◌%◌, ◌^◌, ◌<◌, ◌≤◌, Bool, true, false, true≢false, not, nat_eq, cond, ◌&&◌, ◌↔◌, IsTrue, List, [], ◌∷◌, ◌++◌, filter, length, get_or, Option, Some, None, is_some, refl, sym, ap, ◌∙◌, arith}
 use Rattle.std.specs.Bool.{beq}
 use Rattle.std.proofs.lemmas.Bool.{and_parts, and_from}
+use Rattle.std.proofs.lemmas.Nat.Bits.{bit_at_above, bit_at-zero}
 use Rattle.plai_base.specs.Mask.{all_true, has_slot}
-use Rattle.plai_base.specs.Sets.{has_all}
+use Rattle.plai_base.specs.Sets.{has, has_all, IsSet}
 use Rattle.plai_base.proofs.Bits.{slot_high}
-use Rattle.plai_base.proofs.Sets.{same_tests, has_kept, kept_has, kept_same, filter-kept}
+use Rattle.plai_base.proofs.Sets.{has_kept, kept_has, IsSet-kept}
 use Rattle.plai_terms.specs.declared.term.Term.{Term, Var, fold-Term}
 use Rattle.plai_terms.specs.Term.{has_variables_below}
 use Rattle.plai_domain.specs.Instances.{all_below}
@@ -14,63 +15,49 @@ use Rattle.plai_domain.specs.declared.action.Action.{Action}
 use Rattle.plai_domain.specs.declared.action.Action.TheVariants as action
 use Rattle.plai_bdd.specs.declared.node.Node.{Node}
 use Rattle.plai_bdd.specs.Assignment.{Assignment}
-use Rattle.plai_bdd.specs.Nodes.{IsCanonical, IsFunction, IsOver, is_model, holds as answer}
-use Rattle.plai_assignments.specs.Assignments.{IsPositive, agree, holds, variable_in, variable_step, variable_at, if_variable, acted, refine_of}
+use Rattle.plai_bdd.specs.Nodes.{IsFunction, is_model, holds as answer}
+use Rattle.plai_bdd.specs.Product.{together}
+use Rattle.plai_bdd.specs.Slots.{Somewhere}
+use Rattle.plai_bdd.proofs.Functions.{IsFunction-as}
+use Rattle.plai_bdd.proofs.Models.{mask_below, mask_below-lt, mask_below-slot}
+use Rattle.plai_bdd.proofs.Products.{together-push}
+use Rattle.plai_assignments.specs.Assignments.{agree, holds, variable_in, variable_step, variable_at, if_variable, acted, refine_of}
 use Rattle.plai_assignments.specs.Groundness.{state_with, state_from}
 use Rattle.plai_assignments.proofs.Actions.{variable_of-Var, variable_at_is}
 use Rattle.plai_assignments.proofs.Call.{both_is, truth_kept}
-use Rattle.plai_assignments.proofs.Holds.{holds_alike}
-use Rattle.plai_assignments.proofs.Parts.{agree_true, all_of, all_from, top_holds, value_filter}
-use Rattle.plai_pos.specs.Values.{models_of, IsDiagramOf}
-use Rattle.plai_pos.specs.Unified.{truth}
-use Rattle.plai_pos.proofs.Alike.{TrueAlike, alike_of, alike_as, diagram_of, positive_of}
-use Rattle.plai_pos.proofs.Terms.{get_or_same, truth_alike, beq_agree}
+use Rattle.plai_assignments.proofs.Holds.{holds_same}
+use Rattle.plai_assignments.proofs.Parts.{agree_true, all_of, all_from, top_holds}
+use Rattle.plai_pos.specs.Values.{models_in, terms_at, determined, IsPositiveBelow}
+use Rattle.plai_pos.proofs.Determined.{all_whole, filter_whole}
+use Rattle.plai_pos.proofs.Literals.{range_projects}
+use Rattle.plai_pos.proofs.Masks.{IsRange}
+use Rattle.plai_pos.proofs.Terms.{get_or_same, beq_agree}
 
--- ---- the state where a test passes
+-- ---- the functions of the tests
 
-truth_is : (n x : ℕ) (t : Term) → truth n t (has_slot x) ≡ holds (has_slot (x / 2 ^ n)) t
-truth_is n x t = holds_alike (λ u. has_slot x (n + u)) (has_slot (x / 2 ^ n)) (λ u. sym (slot_high x n u)) t
+from_zero : (u : ℕ) → u ≡ 0 + u
+from_zero u = omega arith
 
-top_is : (n v : ℕ) (t : Term) → has_variables_below v t ≡ true → holds (has_slot (all_true (n + v) / 2 ^ n)) t ≡ true
-top_is n v t h = sym (truth_is n (all_true (n + v)) t) ∙ top_holds (n + v) n v t (omega arith) h
+top_is : (v : ℕ) (t : Term) → has_variables_below v t ≡ true → holds (has_slot (all_true v)) t ≡ true
+top_is v t h = (λ i. holds (λ u. has_slot (all_true v) (from_zero u i)) t) ∙ top_holds v 0 v t (omega arith) h
 
-module _ (n v : ℕ) (state made : List Node) (c : IsCanonical state) (over : IsOver (n + v) state) (top : is_model state (all_true (n + v)) ≡ true)
-    (test : Assignment → Bool) (p : ℕ → Bool) (alike : (at other : Assignment) → ((slot : ℕ) → slot < n + v → at slot ≡ other slot) → test at ≡ test other)
-    (is : (x : ℕ) → test (has_slot x) ≡ p x) (passes : p (all_true (n + v)) ≡ true) (h : IsFunction made (λ at. answer state at && test at)) where
-  where_alike : TrueAlike (n + v) (λ at. answer state at && test at)
-  where_alike at other same t =
-      let q = and_parts (answer state at) (test at) t in
-      and_from _ _ (alike_of (n + v) state c over at other same q.0) (sym (alike at other same) ∙ q.1)
+pub truth_positive : (v : ℕ) (all : List Node) (t : Term) → has_variables_below v t ≡ true → IsFunction all (λ at. holds at t) → IsPositiveBelow v (answer all)
+truth_positive v all t below f = record {
+  over = λ at other same. f.answers at ∙ holds_same v at other same t below ∙ sym (f.answers other);
+  top = f.answers (has_slot (all_true v)) ∙ top_is v t below;
+}
 
-  where_true : IsDiagramOf (n + v) (filter p (models_of (n + v) state)) made
-  where_true =
-      diagram_of (n + v) (filter p (models_of (n + v) state)) made h.canonical (alike_as (n + v) made _ h where_alike)
-      (kept_same (2 ^ (n + v)) (is_model made) (λ x. is_model state x && p x) (λ x l. h.answers (has_slot x) ∙ ap (λ b. is_model state x && b) (is x))
-      ∙ sym (filter-kept (2 ^ (n + v)) p (is_model state)))
-      (value_filter (n + v) p (models_of (n + v) state) (positive_of (n + v) state top) passes)
+pub agreeing_positive : (v : ℕ) (both : List Node) (s t : Term) → has_variables_below v s ≡ true → has_variables_below v t ≡ true
+    → IsFunction both (λ at. agree (holds at s) (holds at t)) → IsPositiveBelow v (answer both)
+agreeing_positive v both s t below_s below_t f = record {
+  over = λ at other same. f.answers at ∙ (λ i. agree (holds_same v at other same s below_s i) (holds_same v at other same t below_t i)) ∙ sym (f.answers other);
+  top = f.answers (has_slot (all_true v)) ∙ agree_true _ _ (top_is v s below_s) (top_is v t below_t);
+}
 
-pub satisfying_is : (n v : ℕ) (state all made : List Node) (t : Term) → IsCanonical state → IsOver (n + v) state → is_model state (all_true (n + v)) ≡ true
-    → has_variables_below v t ≡ true → IsFunction all (truth n t) → IsFunction made (λ at. answer state at && answer all at)
-    → IsDiagramOf (n + v) (filter (λ x. holds (has_slot (x / 2 ^ n)) t) (models_of (n + v) state)) made
-satisfying_is n v state all made t c over top below f h =
-    where_true n v state made c over top (answer all) (λ x. holds (has_slot (x / 2 ^ n)) t)
-    (λ at other same. f.answers at ∙ truth_alike n v t at other below same ∙ sym (f.answers other))
-    (λ x. f.answers (has_slot x) ∙ truth_is n x t) (top_is n v t below) h
-
-pub agreeing_is : (n v : ℕ) (state first second both made : List Node) (s t : Term) → IsCanonical state → IsOver (n + v) state → is_model state (all_true (n + v)) ≡ true
-    → has_variables_below v s ≡ true → has_variables_below v t ≡ true → IsFunction first (truth n s) → IsFunction second (truth n t)
-    → IsFunction both (λ at. beq (answer first at) (answer second at)) → IsFunction made (λ at. answer state at && answer both at)
-    → IsDiagramOf (n + v) (filter (λ x. agree (holds (has_slot (x / 2 ^ n)) s) (holds (has_slot (x / 2 ^ n)) t)) (models_of (n + v) state)) made
-agreeing_is n v state first second both made s t c over top below_s below_t f g b h =
-    where_true n v state made c over top (answer both) (λ x. agree (holds (has_slot (x / 2 ^ n)) s) (holds (has_slot (x / 2 ^ n)) t))
-    (λ at other same.
-    b.answers at
-    ∙ (λ i. beq ((f.answers at ∙ truth_alike n v s at other below_s same ∙ sym (f.answers other)) i) ((g.answers at ∙ truth_alike n v t at other below_t same ∙ sym (g.answers other)) i))
-    ∙ sym (b.answers other))
-    (λ x.
-    b.answers (has_slot x) ∙ beq_agree (answer first (has_slot x)) (answer second (has_slot x))
-    ∙ (λ i. agree ((f.answers (has_slot x) ∙ truth_is n x s) i) ((g.answers (has_slot x) ∙ truth_is n x t) i)))
-    (agree_true _ _ (top_is n v s below_s) (top_is n v t below_t)) h
+pub agreeing_is : (first second both : List Node) (s t : Term) → IsFunction first (λ at. holds at s) → IsFunction second (λ at. holds at t)
+    → IsFunction both (λ at. beq (answer first at) (answer second at)) → IsFunction both (λ at. agree (holds at s) (holds at t))
+agreeing_is first second both s t f g b =
+    IsFunction-as (λ at. beq_agree (answer first at) (answer second at) ∙ (λ i. agree (f.answers at i) (g.answers at i))) b
 
 -- ---- variables
 
@@ -85,20 +72,61 @@ maybe_variable n v xs t r e h =
     ∙ sym (some_unless (has_all xs (λ x. variable_in n x v)) xs)
     ∙ ap (λ o. is_some (if_variable n xs o)) (sym (ap (fold-Term (Option ℕ) variable_step) e ∙ variable_of-Var v))
 
-or_self : (b : Bool) → (b || b) ≡ b
-or_self true = refl
-or_self false = refl
+pub not_is : (slot never made : List Node) (u : ℕ) → IsFunction never (λ _. false) → IsFunction slot (λ at. at u) → IsFunction made (λ at. beq (answer slot at) (answer never at))
+    → IsFunction made (λ at. not (at u))
+not_is slot never made u f g h = IsFunction-as (λ at. (λ i. beq (g.answers at i) (f.answers at i)) ∙ beq_false (at u)) h
+  where
+    beq_false : (b : Bool) → beq b false ≡ not b
+    beq_false true = refl
+    beq_false false = refl
 
--- a variable's slot is forced where all assignments of the state have it
-pub always_true : (n v u : ℕ) (state : List Node) (r : Bool) → u < v → IsOver (n + v) state
-    → ((bound : ℕ) → n + u < bound → n + u < bound → IsOver bound state
-    → (IsTrue r ↔ ((mask : ℕ) → mask < 2 ^ bound → IsTrue (is_model state mask) → IsTrue (has_slot mask (n + u) || has_slot mask (n + u)))))
-    → r ≡ has_all (models_of (n + v) state) (λ x. variable_in n x u)
-always_true n v u state r l over d =
-    let e = d (n + v) (omega (arith, l)) (omega (arith, l)) over in
-    same_tests r (has_all (models_of (n + v) state) (λ x. variable_in n x u))
-    (λ t. all_from (models_of (n + v) state) _ (λ m h. let p = has_kept (2 ^ (n + v)) (is_model state) m h in sym (or_self (has_slot m (n + u))) ∙ e.0 t m p.0 p.1))
-    (λ t. e.1 (λ m less h. or_self (has_slot m (n + u)) ∙ all_of (models_of (n + v) state) (λ x. variable_in n x u) m t (kept_has (2 ^ (n + v)) (is_model state) m less h)))
+-- some assignment makes the variable false
+module _ (v u mask : ℕ) (given longer : List (List Node)) (f some : List Node) (r : Bool) (room : v ≤ 64) (d : IsPositiveBelow v (together given)) (pushed : longer ≡ given ++ f ∷ [])
+    (says : IsFunction f (λ at. not (at u))) (range : IsRange mask 0 v) (meaning : (at : Assignment) → IsTrue (answer some at) ↔ Somewhere mask (together longer) at)
+    (asked : r ≡ is_model some 0) (less : u < v) where
+  longer_is : (at : Assignment) → together longer at ≡ (together given at && not (at u))
+  longer_is at = ap (λ fs. together fs at) pushed ∙ together-push given f at ∙ ap (λ b. together given at && b) (says.answers at)
+
+  all_true_of : (at : Assignment) → has_all (models_in v (together given)) (λ y. has_slot y u) ≡ true → IsTrue (together given at) → at u ≡ true
+  all_true_of at all t =
+      let y = mask_below v at in
+      let same : (slot : ℕ) → slot < v → has_slot y slot ≡ at slot = λ slot l. mask_below-slot v at slot l in
+      sym (same u less)
+      ∙ all_of (models_in v (together given)) (λ y. has_slot y u) y all
+      (kept_has (2 ^ v) (λ y. together given (has_slot y)) y (mask_below-lt v at) (d.over (has_slot y) at same ∙ t))
+
+  never : r ≡ true → has_all (models_in v (together given)) (λ y. has_slot y u) ≡ true → ⊥
+  never found all =
+      let (other, (q, t)) = (range_projects mask v (together longer) room range (has_slot 0)).0 ((meaning (has_slot 0)).0 (sym asked ∙ found)) in
+      let p = and_parts (together given other) (not (other u)) (sym (longer_is other) ∙ t) in
+      true≢false (sym p.1 ∙ ap not (all_true_of other all p.0))
+
+  always : r ≡ false → has_all (models_in v (together given)) (λ y. has_slot y u) ≡ true
+  always none =
+      all_from (models_in v (together given)) (λ y. has_slot y u)
+      (λ y h. by y h (has_kept (2 ^ v) (λ y. together given (has_slot y)) y h).1 (has_slot y u) refl)
+    where
+      high : (y slot : ℕ) → y < 2 ^ v → v ≤ slot → has_slot y slot ≡ has_slot 0 slot
+      high y slot less le = ap (λ n. nat_eq n 1) (bit_at_above y v slot less le ∙ sym (bit_at-zero slot))
+
+      by : (y : ℕ) → has (models_in v (together given)) y ≡ true → IsTrue (together given (has_slot y)) → (b : Bool) → has_slot y u ≡ b → has_slot y u ≡ true
+      by y h t true e = e
+      by y h t false e =
+          let found : IsTrue (together longer (has_slot y)) = longer_is (has_slot y) ∙ and_from _ _ t (ap not e) in
+          let y_below = (has_kept (2 ^ v) (λ y. together given (has_slot y)) y h).0 in
+          absurd (true≢false (sym (asked ∙ (meaning (has_slot 0)).1 ((range_projects mask v (together longer) room range (has_slot 0)).1 (has_slot y, ((λ slot le. high y slot y_below le), found)))) ∙ none))
+
+  pub may_be : r ≡ not (has_all (models_in v (together given)) (λ y. has_slot y u))
+  may_be = by r refl (has_all (models_in v (together given)) (λ y. has_slot y u)) refl
+    where
+      by : (b : Bool) → r ≡ b → (c : Bool) → has_all (models_in v (together given)) (λ y. has_slot y u) ≡ c → r ≡ not (has_all (models_in v (together given)) (λ y. has_slot y u))
+      by true e true f = absurd (never e f)
+      by true e false f = e ∙ sym (ap not f)
+      by false e c f = e ∙ sym (ap not (always e))
+
+-- a variable's slot is true in all assignments of the state where it is in all of the variables'
+pub always_true : (n v u : ℕ) (sets ys : List ℕ) → length sets ≡ n → IsSet (2 ^ v) ys → has_all ys (λ y. has_slot y u) ≡ has_all (determined n v sets ys) (λ x. variable_in n x u)
+always_true n v u sets ys size is = sym (all_whole n v sets ys size is (λ y. has_slot y u)) ∙ (λ i. has_all (determined n v sets ys) (λ x. slot_high x n u i))
 
 unless_some : (b : Bool) (xs : List ℕ) → true ≡ is_some (cond b None (Some xs)) → cond b None (Some xs) ≡ Some xs
 unless_some true xs e = cc
@@ -133,24 +161,30 @@ module _ (n v : ℕ) (args : List Term) (j : ℕ) (within : j < length args) (xs
   pub no_variable : false ≡ is_some (if_variable n xs (fold-Term (Option ℕ) variable_step t)) → None ≡ state_from n v (if_variable n xs (variable_at args j))
   no_variable e = ap (state_from n v) (sym (given_none n xs (variable_at args j) (told false e)))
 
-module _ (n v : ℕ) (args : List Term) (below : all_below v args ≡ true) (xs items : List ℕ) (positive : IsPositive (n + v) xs)
+module _ (n v : ℕ) (sets ys : List ℕ) (size : length sets ≡ n) (is : IsSet (2 ^ v) ys) (args : List Term) (below : all_below v args ≡ true) (items : List ℕ)
     (i : ℕ) (within : i < length args) (a : Term) (at : a ≡ get_or args i a) where
   first_term : a ≡ get_or args i (Var 0)
   first_term = at ∙ get_or_same args i a (Var 0) within
 
-  module _ (made : items ≡ filter (λ x. holds (has_slot (x / 2 ^ n)) a) xs) where
-    pub satisfied_is : items ≡ acted n v args (λ y. has_slot y (n + v + i)) xs
+  set : IsSet (2 ^ (n + v)) (determined n v sets ys)
+  set = IsSet-kept (2 ^ (n + v)) (λ x. has ys (x / 2 ^ n) && nat_eq (terms_at sets (x / 2 ^ n)) (x % 2 ^ n))
+
+  module _ (made : items ≡ filter (λ y. holds (has_slot y) a) ys) where
+    pub satisfied_is : determined n v sets items ≡ acted n v args (λ y. has_slot y (n + v + i)) (determined n v sets ys)
     satisfied_is =
-        made ∙ ap (λ t. filter (λ x. holds (has_slot (x / 2 ^ n)) t) xs) first_term
-        ∙ sym (truth_kept n v args below xs positive.is_set i within)
+        ap (determined n v sets) (made ∙ ap (λ t. filter (λ y. holds (has_slot y) t) ys) first_term)
+        ∙ sym (filter_whole n v sets ys size is (λ y. holds (has_slot y) (get_or args i (Var 0))))
+        ∙ sym (truth_kept n v args below (determined n v sets ys) set i within)
 
   module _ (j : ℕ) (less : j < length args) (b : Term) (there : b ≡ get_or args j b)
-      (made : items ≡ filter (λ x. agree (holds (has_slot (x / 2 ^ n)) a) (holds (has_slot (x / 2 ^ n)) b)) xs) where
-    pub agreed_is : items ≡ acted n v args (λ y. agree (has_slot y (n + v + i)) (has_slot y (n + v + j))) xs
+      (made : items ≡ filter (λ y. agree (holds (has_slot y) a) (holds (has_slot y) b)) ys) where
+    pub agreed_is : determined n v sets items ≡ acted n v args (λ y. agree (has_slot y (n + v + i)) (has_slot y (n + v + j))) (determined n v sets ys)
     agreed_is =
-        made ∙ ap (λ t. filter (λ x. agree (holds (has_slot (x / 2 ^ n)) t) (holds (has_slot (x / 2 ^ n)) b)) xs) first_term
-        ∙ ap (λ t. filter (λ x. agree (holds (has_slot (x / 2 ^ n)) (get_or args i (Var 0))) (holds (has_slot (x / 2 ^ n)) t)) xs) (there ∙ get_or_same args j b (Var 0) less)
-        ∙ sym (both_is n v args below xs positive.is_set i j within less)
+        ap (determined n v sets)
+        (made ∙ ap (λ t. filter (λ y. agree (holds (has_slot y) t) (holds (has_slot y) b)) ys) first_term
+        ∙ ap (λ t. filter (λ y. agree (holds (has_slot y) (get_or args i (Var 0))) (holds (has_slot y) t)) ys) (there ∙ get_or_same args j b (Var 0) less))
+        ∙ sym (filter_whole n v sets ys size is (λ y. agree (holds (has_slot y) (get_or args i (Var 0))) (holds (has_slot y) (get_or args j (Var 0)))))
+        ∙ sym (both_is n v args below (determined n v sets ys) set i j within less)
 
 -- ---- the actions, by name
 

@@ -1,11 +1,11 @@
--- Terms, their slots, and unification of slots with terms, assignment by assignment.
-use Rattle.std.proofs.Common.{◌≡◌, ℕ, zero, suc, ◌+◌, ◌<◌, ◌≤◌, Bool, true, false, nat_lt, ◌&&◌, bit_or, IsTrue, List, [], ◌∷◌, ◌++◌, ◌↔◌, length, get_or, ◌⊎◌, inl, inr, refl, sym, ap, subst, ◌∙◌, arith, rules}
+-- Terms and their slots, assignment by assignment.
+use Rattle.std.proofs.Common.{◌≡◌, ℕ, zero, suc, ◌+◌, ◌<◌, ◌≤◌, Bool, true, false, true≢false, nat_lt, ◌&&◌, bit_or, IsTrue, List, [], ◌∷◌, ◌++◌, ◌↔◌, length, get_or, ◌⊎◌, inl, inr, refl, sym, ap, subst, ◌∙◌, arith, rules}
 use Rattle.std.specs.Bool.{beq}
 use Rattle.std.proofs.Math.ListN.{get_or-append}
 use Rattle.std.proofs.Math.Seq.{get_or-append_seam}
 use Rattle.std.proofs.lemmas.List.{length-append}
 use Rattle.std.proofs.lemmas.Bool.{ltb-true, and_parts, and_from}
-use Rattle.plai_base.specs.Mask.{mask_of}
+use Rattle.plai_base.specs.Mask.{has_slot, mask_of}
 use Rattle.plai_terms.specs.declared.term.Term.{Term, Var, the_lemmas}
 use Rattle.plai_terms.specs.Term.{has_variables_below}
 use Rattle.plai_domain.specs.Instances.{all_below}
@@ -13,11 +13,10 @@ use Rattle.plai_bdd.specs.declared.node.Node.{Node}
 use Rattle.plai_bdd.specs.Assignment.{Assignment}
 use Rattle.plai_bdd.specs.Slots.{conjunction, Somewhere, DifferWithin}
 use Rattle.plai_bdd.specs.Nodes.{IsCanonical, IsFunction, holds as answer}
-use Rattle.plai_assignments.specs.Assignments.{agree}
-use Rattle.plai_assignments.proofs.Holds.{holds-Var, holds_same}
-use Rattle.plai_pos.specs.Unified.{truth, IsUnified, AreSlotsOf, AreUnused, IsIntroduced, IsSubstituted}
-use Rattle.plai_pos.proofs.Alike.{TrueAlike}
-use Rattle.plai_pos.proofs.Masks.{conjunction-insert, conjunction-none}
+use Rattle.plai_assignments.specs.Assignments.{agree, holds}
+use Rattle.plai_assignments.proofs.Holds.{holds-Var}
+use Rattle.plai_pos.specs.TermSlots.{IsBelow, AreSlotsOf, IsSubstituted}
+use Rattle.plai_pos.proofs.Masks.{no_slots, slot_or, conjunction-insert, conjunction-none}
 
 -- ---- variables within their limit
 
@@ -37,6 +36,11 @@ get_or_same [] j d e l = absurd (omega (arith, l))
 get_or_same (t ∷ ts) zero d e l = refl
 get_or_same (t ∷ ts) (suc j) d e l = get_or_same ts j d e (omega (arith, l))
 
+get_or_past : (xs : List ℕ) (j d : ℕ) → length xs ≤ j → get_or xs j d ≡ d
+get_or_past [] j d l = refl
+get_or_past (x ∷ xs) zero d l = absurd (omega (arith, l))
+get_or_past (x ∷ xs) (suc j) d l = get_or_past xs j d (omega (arith, l))
+
 pub term_at : (args : List Term) (j : ℕ) (t : Term) → t ≡ get_or args j t → j < length args → t ≡ get_or args j (Var 0)
 term_at args j t e l = e ∙ get_or_same args j t (Var 0) l
 
@@ -45,21 +49,26 @@ term_below limit args j t h e l = ap (has_variables_below limit) (term_at args j
 
 -- ---- the slots of a term
 
-pub var_added : (slots result n v u : ℕ) (t : Term) → t ≡ Var u → has_variables_below v t ≡ true → n + v ≤ 64 → result ≡ bit_or slots (mask_of (n + u))
-    → (at : Assignment) → conjunction result at ≡ (conjunction slots at && truth n t at)
-var_added slots result n v u t e h room is at =
-    let less : n + u < 64 = omega (arith, var_below v u t e h, room) in
-    ap (λ m. conjunction m at) is ∙ conjunction-insert slots (n + u) at less
-    ∙ ap (λ b. conjunction slots at && b) (sym (ap (λ x. truth n x at) e ∙ holds-Var (λ w. at (n + w)) u))
+pub var_added : (slots result v u : ℕ) (t : Term) → t ≡ Var u → has_variables_below v t ≡ true → v ≤ 64 → result ≡ bit_or slots (mask_of u)
+    → (at : Assignment) → conjunction result at ≡ (conjunction slots at && holds at t)
+var_added slots result v u t e h room is at =
+    let less : u < 64 = omega (arith, var_below v u t e h, room) in
+    ap (λ m. conjunction m at) is ∙ conjunction-insert slots u at less
+    ∙ ap (λ b. conjunction slots at && b) (sym (ap (holds at) e ∙ holds-Var at u))
 
-pub alone : (m : ℕ) (result : ℕ) (n : ℕ) (t : Term) → m ≡ 0 → ((at : Assignment) → conjunction result at ≡ (conjunction m at && truth n t at))
-    → (at : Assignment) → conjunction result at ≡ truth n t at
-alone m result n t e h at = h at ∙ ap (λ b. b && truth n t at) (ap (λ k. conjunction k at) e ∙ conjunction-none at)
+pub var_within : (slots result v u : ℕ) (t : Term) → t ≡ Var u → has_variables_below v t ≡ true → result ≡ bit_or slots (mask_of u) → IsBelow v slots → IsBelow v result
+var_within slots result v u t e h is below slot has = by (slot_or slots u slot (subst (λ m. IsTrue (has_slot m slot)) is has))
+  where
+    by : IsTrue (has_slot slots slot) ⊎ (slot ≡ u) → slot < v
+    by (inl old) = below slot old
+    by (inr same) = omega (arith, same, var_below v u t e h)
 
--- the truth of a term depends on its variables' slots alone
-pub truth_alike : (n v : ℕ) (t : Term) (at other : Assignment) → has_variables_below v t ≡ true → ((slot : ℕ) → slot < n + v → at slot ≡ other slot)
-    → truth n t at ≡ truth n t other
-truth_alike n v t at other h same = holds_same v (λ w. at (n + w)) (λ w. other (n + w)) (λ w l. same (n + w) (omega (arith, l))) t h
+pub none_below : (v m : ℕ) → m ≡ 0 → IsBelow v m
+none_below v m e slot h = absurd (true≢false (sym h ∙ ap (λ k. has_slot k slot) e ∙ no_slots slot))
+
+pub alone : (m : ℕ) (result : ℕ) (t : Term) → m ≡ 0 → ((at : Assignment) → conjunction result at ≡ (conjunction m at && holds at t))
+    → (at : Assignment) → conjunction result at ≡ holds at t
+alone m result t e h at = h at ∙ ap (λ b. b && holds at t) (ap (λ k. conjunction k at) e ∙ conjunction-none at)
 
 -- ---- equal truths
 
@@ -79,55 +88,43 @@ beq_agree true false = refl
 beq_agree false true = refl
 beq_agree false false = refl
 
-last_or : (j i : ℕ) → j < i + 1 → (j < i) ⊎ (j ≡ i)
+pub last_or : (j i : ℕ) → j < i + 1 → (j < i) ⊎ (j ≡ i)
 last_or j i l = grind arith
-
--- what is unified depends on its slots alone
-pub unified_alike : (n v first count e : ℕ) (terms : List Term) (old new : List Node) → all_below v terms ≡ true → count ≤ length terms → n + v ≤ e → first + count ≤ e
-    → TrueAlike e (answer old) → IsUnified n first count terms old new → TrueAlike e (answer new)
-unified_alike n v first count e terms old new below fits le end a h at other same t =
-    let p = (h.answers at).0 t in
-    (h.answers other).1 (
-      a at other same p.0,
-      λ j l.
-          let inside : first + j < e = omega (arith, l) in
-          let there : j < length terms = omega (arith, l) in
-          sym (same (first + j) inside) ∙ p.1 j l
-          ∙ truth_alike n v (get_or terms j (Var 0)) at other (below_at v terms j below there) (λ slot less. same slot (omega (arith, less))),
-    )
 
 -- ---- sets of slots
 
-pub slots_more : (n i : ℕ) (terms : List Term) (t : Term) (slots new : List ℕ) (set : ℕ) → t ≡ get_or terms i t → i < length terms → ((at : Assignment) → conjunction set at ≡ truth n t at)
-    → new ≡ slots ++ set ∷ [] → AreSlotsOf n i terms slots → AreSlotsOf n (i + 1) terms new
-slots_more n i terms t slots new set at_i within is e h = record {
+pub none_slots : (v : ℕ) (terms : List Term) (slots : List ℕ) → slots ≡ [] → AreSlotsOf v 0 terms slots
+none_slots v terms slots e = record {
+  size = ap length e;
+  below = λ j. none_below v _ (ap (λ xs. get_or xs j 0) e);
+  truths = λ j l. absurd (omega (arith, l));
+}
+
+pub slots_more : (v i : ℕ) (terms : List Term) (t : Term) (slots new : List ℕ) (set : ℕ) → t ≡ get_or terms i t → i < length terms → IsBelow v set
+    → ((at : Assignment) → conjunction set at ≡ holds at t) → new ≡ slots ++ set ∷ [] → AreSlotsOf v i terms slots → AreSlotsOf v (i + 1) terms new
+slots_more v i terms t slots new set at_i within below is e h = record {
   size = ap length e ∙ length-append {A = ℕ} slots (set ∷ []) ∙ (let q = h.size in omega (arith, q));
+  below = λ j. subst (λ xs. IsBelow v (get_or xs j 0)) (sym e) (low j (before_or j i));
   truths = λ j l at. ap (λ xs. conjunction (get_or xs j 0) at) e ∙ by j at (last_or j i l);
 }
   where
-    by : (j : ℕ) (at : Assignment) → (j < i) ⊎ (j ≡ i) → conjunction (get_or (slots ++ set ∷ []) j 0) at ≡ truth n (get_or terms j (Var 0)) at
-    by j at (inl l) = let inside : j < length slots = omega (arith, l, h.size) in ap (λ m. conjunction m at) (get_or-append slots (set ∷ []) 0 j inside) ∙ h.truths j l at
-    by j at (inr q) =
-        let here : get_or (slots ++ set ∷ []) j 0 ≡ set = ap (λ k. get_or (slots ++ set ∷ []) k 0) (q ∙ sym h.size) ∙ get_or-append_seam slots set [] 0 in
-        ap (λ m. conjunction m at) here ∙ is at ∙ ap (λ x. truth n x at) (term_at terms i t at_i within) ∙ sym (ap (λ k. truth n (get_or terms k (Var 0)) at) q)
+    before_or : (j i : ℕ) → (j < i) ⊎ ((j ≡ i) ⊎ (i < j))
+    before_or j i = grind arith
 
-pub introduced : (slot end gone first : ℕ) (slots : List ℕ) (old needed equivalence new : List Node) → first ≡ get_or slots 0 first → 0 < length slots → AreUnused slots end gone
-    → ((at : Assignment) → IsTrue (answer needed at) ↔ Somewhere gone (answer old) at) → IsFunction equivalence (λ at. beq (at slot) (conjunction first at))
-    → IsFunction new (λ at. answer needed at && answer equivalence at) → IsIntroduced slot slots end old new
-introduced slot end gone first slots old needed equivalence new is some unused meaning f h = record {
-  gone = gone;
-  unused = unused;
-  canonical = h.canonical;
-  answers = λ at. (
-    λ t.
-        let p = and_parts (answer needed at) (answer equivalence at) (sym (h.answers at) ∙ t) in
-        ((meaning at).0 p.0, beq_same (at slot) (conjunction first at) (sym (f.answers at) ∙ p.1) ∙ set at),
-    λ p. h.answers at ∙ and_from _ _ ((meaning at).1 p.0) (f.answers at ∙ same_beq (at slot) (conjunction first at) (p.1 ∙ sym (set at))),
-  );
-}
-  where
-    set : (at : Assignment) → conjunction first at ≡ conjunction (get_or slots 0 0) at
-    set at = ap (λ m. conjunction m at) (is ∙ get_or_same slots 0 first 0 some)
+    seam : (j : ℕ) → j ≡ i → get_or (slots ++ set ∷ []) j 0 ≡ set
+    seam j q = ap (λ k. get_or (slots ++ set ∷ []) k 0) (q ∙ sym h.size) ∙ get_or-append_seam slots set [] 0
+
+    first : (j : ℕ) → j < i → get_or (slots ++ set ∷ []) j 0 ≡ get_or slots j 0
+    first j l = let inside : j < length slots = omega (arith, l, h.size) in get_or-append slots (set ∷ []) 0 j inside
+
+    low : (j : ℕ) → (j < i) ⊎ ((j ≡ i) ⊎ (i < j)) → IsBelow v (get_or (slots ++ set ∷ []) j 0)
+    low j (inl l) = subst (IsBelow v) (sym (first j l)) (h.below j)
+    low j (inr (inl q)) = subst (IsBelow v) (sym (seam j q)) below
+    low j (inr (inr m)) = none_below v _ (get_or_past (slots ++ set ∷ []) j 0 (omega (arith, m, length-append {A = ℕ} slots (set ∷ []), h.size)))
+
+    by : (j : ℕ) (at : Assignment) → (j < i) ⊎ (j ≡ i) → conjunction (get_or (slots ++ set ∷ []) j 0) at ≡ holds at (get_or terms j (Var 0))
+    by j at (inl l) = ap (λ m. conjunction m at) (first j l) ∙ h.truths j l at
+    by j at (inr q) = ap (λ m. conjunction m at) (seam j q) ∙ is at ∙ ap (holds at) (term_at terms i t at_i within) ∙ sym (ap (λ k. holds at (get_or terms k (Var 0))) q)
 
 pub substituted : (slot set one : ℕ) (old equivalence both new : List Node) → one ≡ mask_of slot → IsFunction equivalence (λ at. beq (at slot) (conjunction set at))
     → IsFunction both (λ at. answer old at && answer equivalence at) → IsCanonical new → ((at : Assignment) → IsTrue (answer new at) ↔ Somewhere one (answer both) at)

@@ -1,3 +1,3 @@
 pub mod Values
-pub mod Unified
+pub mod TermSlots
 pub mod Equality

@@ -50,12 +50,7 @@ impl Ground {
         ensures { IfOk result (λ state. option_map state_of state
             ≡ (groundness.enter (value_of call.now) head.now variables).value) }
     {
-        let diagram = literal::enter(alloc, call, head, variables)?;
-        Ok(Some(State {
-            arity: call.arity,
-            variables,
-            diagram,
-        }))
+        Ok(Some(literal::enter(alloc, call, head, variables)?))
     }
 
     /// The call of a literal with these arguments.
@@ -93,8 +88,7 @@ impl Ground {
         ensures { IfOk result (λ next. option_map state_of next
             ≡ (groundness.back (state_of state.now) args.now (value_of answer.now)).value) }
     {
-        let diagram = literal::back(alloc, state, args, answer)?;
-        Ok(Some(state.with_diagram(diagram)))
+        Ok(Some(literal::back(alloc, state, args, answer)?))
     }
 
     /// What an action of a builtin leaves of the state at a literal with these arguments, or none.

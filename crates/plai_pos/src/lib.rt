@@ -10,7 +10,6 @@ mod refine;
 mod slots;
 #[cfg(test)]
 mod tests;
-mod unify;
 mod value;
 
 pub use domain::Ground;

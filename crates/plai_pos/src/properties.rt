@@ -5,7 +5,7 @@ ghost use Rattle.plai_assignments.specs.Assignments.{argument_in, describe_of, e
 ghost use Rattle.plai_bdd.specs.Assignment.{Assignment};
 ghost use Rattle.plai_bdd.specs.Slots.{conjunction};
 ghost use Rattle.plai_pos.specs.Values.{models_of, IsDiagramOf};
-ghost use Rattle.plai_pos.specs.Unified.{allowed};
+ghost use Rattle.plai_pos.specs.TermSlots.{allowed};
 
 use crate::value::Value;
 use plai_base::Mask;

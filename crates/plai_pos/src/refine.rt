@@ -1,50 +1,43 @@
-ghost use Rattle.std.specs.Prelude.{◌≡◌, ◌+◌, ◌-◌, ◌≤◌, ◌/◌, ◌^◌, ℕ, Option, true, length, is_some, filter, IfOk};
+ghost use Rattle.std.specs.Prelude.{◌≡◌, ◌+◌, ◌-◌, ◌≤◌, ◌<◌, ℕ, Option, true, not, length, is_some, IfOk};
+ghost use Rattle.plai_base.specs.Sets.{has_all};
 ghost use Rattle.std.specs.Option.{option_map};
 ghost use Rattle.plai_base.specs.Mask.{has_slot};
 ghost use Rattle.plai_terms.specs.Term.{has_variables_below};
 ghost use Rattle.plai_terms.specs.declared.term.Term.{fold-Term};
 ghost use Rattle.plai_domain.specs.Instances.{all_below, acts_within};
+ghost use Rattle.plai_bdd.specs.Nodes.{IsFunction};
 ghost use Rattle.plai_assignments.specs.Assignments.{agree, acted, holds, if_variable, variable_at, variable_step};
 ghost use Rattle.plai_assignments.specs.Groundness.{state_with, state_from, groundness};
-ghost use Rattle.plai_pos.specs.Values.{state_of, models_of, IsDiagramOf};
+ghost use Rattle.plai_bdd.specs.Product.{together};
+ghost use Rattle.plai_pos.specs.Values.{state_of, assignments_of, models_in};
 
-use crate::unify::truth;
-use crate::value::State;
+use crate::slots::{slots_from, with_variables};
+use crate::value::{State, copies};
+use plai_base::Mask;
 use plai_bdd::Bdd;
 use plai_domain::Action;
 use plai_terms::Term;
 use std::alloc::{AllocError, Global};
 
-fn copy(alloc: Global, state: &State) -> Result<State, AllocError>
-    ensures { IfOk result (λ next. state_of next ≡ state_of state.now) }
+/// The function that all variables of the term are true, variable `v` being slot `v`.
+fn truth(alloc: Global, term: &Term, variables: u32) -> Result<Bdd, AllocError>
+    requires below { has_variables_below variables term.now ≡ true }
+    requires room { variables ≤ 64 }
+    ensures { IfOk result (λ b. IsFunction b (λ at. holds at term.now)) }
 {
-    let diagram = state.diagram.copy(alloc)?;
-    Ok(state.with_diagram(diagram))
+    Bdd::all_of(alloc, with_variables(Mask::empty(), term, variables))
 }
 
-/// The state where the two terms are both true, or neither.
-fn agreeing(alloc: Global, state: &State, left: &Term, right: &Term) -> Result<Bdd, AllocError>
-    requires left { has_variables_below state.now.variables left.now ≡ true }
-    requires right { has_variables_below state.now.variables right.now ≡ true }
-    ensures { IfOk result (λ b. IsDiagramOf (state.now.arity + state.now.variables)
-        (filter (λ x. agree (holds (has_slot (x / 2 ^ state.now.arity)) left.now) (holds (has_slot (x / 2 ^ state.now.arity)) right.now))
-        (models_of (state.now.arity + state.now.variables) state.now.diagram)) b) }
+/// The function that the two terms are both true, or neither.
+fn agreeing(alloc: Global, left: &Term, right: &Term, variables: u32) -> Result<Bdd, AllocError>
+    requires left { has_variables_below variables left.now ≡ true }
+    requires right { has_variables_below variables right.now ≡ true }
+    requires room { variables ≤ 64 }
+    ensures { IfOk result (λ b. IsFunction b (λ at. agree (holds at left.now) (holds at right.now))) }
 {
-    let first = truth(alloc, left, state.arity, state.variables)?;
-    let second = truth(alloc, right, state.arity, state.variables)?;
-    let same = first.iff(alloc, &second)?;
-    state.diagram.and(alloc, &same)
-}
-
-/// The state where the term is true.
-fn satisfying(alloc: Global, state: &State, term: &Term) -> Result<Bdd, AllocError>
-    requires { has_variables_below state.now.variables term.now ≡ true }
-    ensures { IfOk result (λ b. IsDiagramOf (state.now.arity + state.now.variables)
-        (filter (λ x. holds (has_slot (x / 2 ^ state.now.arity)) term.now)
-        (models_of (state.now.arity + state.now.variables) state.now.diagram)) b) }
-{
-    let all = truth(alloc, term, state.arity, state.variables)?;
-    state.diagram.and(alloc, &all)
+    let first = truth(alloc, left, variables)?;
+    let second = truth(alloc, right, variables)?;
+    first.iff(alloc, &second)
 }
 
 /// Keeps the assignments under which both arguments are true, or neither.
@@ -61,12 +54,12 @@ fn agreed(
     ensures { IfOk result (λ next. let start = state.now.arity + state.now.variables in
         state_of next ≡ state_with state.now.arity state.now.variables
         (acted state.now.arity state.now.variables args.now
-        (λ y. agree (has_slot y (start + (left - 1))) (has_slot y (start + (right - 1)))) (models_of start state.now.diagram))) }
+        (λ y. agree (has_slot y (start + (left - 1))) (has_slot y (start + (right - 1)))) (assignments_of state.now))) }
 {
     let first = &args[left as usize - 1];
     let second = &args[right as usize - 1];
-    let diagram = agreeing(alloc, state, first, second)?;
-    Ok(state.with_diagram(diagram))
+    let same = agreeing(alloc, first, second, state.variables)?;
+    state.with_factor(alloc, same)
 }
 
 /// Keeps the assignments under which the argument is true.
@@ -81,25 +74,43 @@ fn satisfied(
     ensures { IfOk result (λ next. let start = state.now.arity + state.now.variables in
         state_of next ≡ state_with state.now.arity state.now.variables
         (acted state.now.arity state.now.variables args.now
-        (λ y. has_slot y (start + (argument - 1))) (models_of start state.now.diagram))) }
+        (λ y. has_slot y (start + (argument - 1))) (assignments_of state.now))) }
 {
     let term = &args[argument as usize - 1];
-    let diagram = satisfying(alloc, state, term)?;
-    Ok(state.with_diagram(diagram))
+    let all = truth(alloc, term, state.variables)?;
+    state.with_factor(alloc, all)
+}
+
+/// The function that the variable is false.
+fn not_variable(alloc: Global, variable: u32) -> Result<Bdd, AllocError>
+    requires { variable < 64 }
+    ensures { IfOk result (λ b. IsFunction b (λ at. not (at variable))) }
+{
+    let never = Bdd::constant(alloc, false)?;
+    let slot = Bdd::variable(alloc, variable)?;
+    slot.iff(alloc, &never)
+}
+
+/// Whether some assignment of the state makes the variable false.
+fn may_be_false(alloc: Global, state: &State, variable: u32) -> Result<bool, AllocError>
+    requires { variable < state.now.variables }
+    ensures { IfOk result (λ may. may ≡ not (has_all (models_in state.now.variables (together state.now.factors.items)) (λ y. has_slot y variable))) }
+{
+    let mut functions = copies(alloc, state.factors.as_slice())?;
+    functions.push(not_variable(alloc, variable)?)?;
+    let some = Bdd::and_exists(alloc, functions, slots_from(0, state.variables))?;
+    Ok(some.is_model(Mask::empty()))
 }
 
 /// Whether the term is a variable that some assignment of the state makes false.
-fn may_be_variable(state: &State, term: &Term) -> bool
+fn may_be_variable(alloc: Global, state: &State, term: &Term) -> Result<bool, AllocError>
     requires { has_variables_below state.now.variables term.now ≡ true }
-    ensures { result ≡ is_some (if_variable state.now.arity (models_of (state.now.arity + state.now.variables) state.now.diagram)
-        (fold-Term (Option ℕ) variable_step term.now)) }
+    ensures { IfOk result (λ may. may ≡ is_some (if_variable state.now.arity (assignments_of state.now)
+        (fold-Term (Option ℕ) variable_step term.now))) }
 {
     match term {
-        Term::Var(number) => {
-            let slot = state.arity + *number;
-            !state.diagram.forces(slot, slot)
-        }
-        Term::Int(_) | Term::Atom(_) | Term::Compound(_, _) => false,
+        Term::Var(number) => may_be_false(alloc, state, *number),
+        Term::Int(_) | Term::Atom(_) | Term::Compound(_, _) => Ok(false),
     }
 }
 
@@ -113,12 +124,11 @@ fn kept_variable(
     requires below { all_below state.now.variables args.now ≡ true }
     requires argument { (1 ≤ argument) × (argument ≤ length args.now) }
     ensures { IfOk result (λ next. option_map state_of next ≡ state_from state.now.arity state.now.variables
-        (if_variable state.now.arity (models_of (state.now.arity + state.now.variables) state.now.diagram)
-        (variable_at args.now (argument - 1)))) }
+        (if_variable state.now.arity (assignments_of state.now) (variable_at args.now (argument - 1)))) }
 {
     let term = &args[argument as usize - 1];
-    if may_be_variable(state, term) {
-        Ok(Some(copy(alloc, state)?))
+    if may_be_variable(alloc, state, term)? {
+        Ok(Some(state.copy(alloc)?))
     } else {
         Ok(None)
     }
@@ -138,12 +148,13 @@ pub(crate) fn refine(
 {
     match action {
         Action::Fail => Ok(None),
-        Action::Unify(left, right) => Ok(Some(agreed(alloc, state, args, *left, *right)?)),
-        Action::Same(left, right) => Ok(Some(agreed(alloc, state, args, *left, *right)?)),
+        Action::Unify(left, right) | Action::Same(left, right) => {
+            Ok(Some(agreed(alloc, state, args, *left, *right)?))
+        }
         Action::Ground(argument) | Action::BindInt(argument) => {
             Ok(Some(satisfied(alloc, state, args, *argument)?))
         }
         Action::Var(argument) => kept_variable(alloc, state, args, *argument),
-        Action::Nonvar(_) | Action::Havoc(_) => Ok(Some(copy(alloc, state)?)),
+        Action::Nonvar(_) | Action::Havoc(_) => Ok(Some(state.copy(alloc)?)),
     }
 }

@@ -1,9 +1,14 @@
-ghost use Rattle.std.specs.Prelude.{◌≡◌, ◌≤◌, ◌+◌, true};
-ghost use Rattle.plai_base.specs.Mask.{all_true};
+ghost use Rattle.std.specs.Prelude.{◌≡◌, ◌≤◌, ◌<◌, ◌+◌, ℕ, true, length, IfOk};
+ghost use Rattle.plai_base.specs.Mask.{all_true, has_slot};
+ghost use Rattle.plai_bdd.specs.Assignment.{Assignment};
 ghost use Rattle.plai_bdd.specs.Nodes.{IsCanonical, IsOver, is_model};
+ghost use Rattle.plai_bdd.specs.Product.{together};
 ghost use Rattle.plai_bdd.specs.Props.{IsCanonical-prop};
+ghost use Rattle.plai_pos.specs.TermSlots.{AreBelow};
 
+use plai_base::Mask;
 use plai_bdd::Bdd;
+use std::alloc::{AllocError, Global};
 
 /// What is known of the arguments of a call or an answer: a Boolean function of them that is true where all are. Argument
 /// `i`, numbered from 1, is slot `i - 1`; a true slot stands for a ground argument.
@@ -17,42 +22,74 @@ pub struct Value {
     pub ghost top: { is_model diagram (all_true arity) ≡ true },
 }
 
-/// What is known of a clause's head arguments and variables, at a place of the clause: a Boolean function of them that is
-/// true where all are. Variable `v` is slot `arity + v`.
+/// What is known of a clause's head arguments and variables, at a place of the clause: a Boolean function of the variables,
+/// variable `v` being slot `v`, that is true where all are, and for each argument the set of its variables' slots. An
+/// argument is true exactly where all slots of its set are. The function is kept as factors, all of which are true where it
+/// is, so that it is small though it may be over many variables.
 #[derive(Drop)]
 pub struct State {
     pub(crate) arity: u32,
     pub(crate) variables: u32,
-    pub(crate) diagram: Bdd,
+    pub(crate) sets: Vec<Mask>,
+    pub(crate) factors: Vec<Bdd>,
     pub ghost small: { arity ≤ 16 },
     pub ghost slots: { arity + variables ≤ 64 },
-    pub ghost canonical: { IsCanonical diagram } by { IsCanonical-prop diagram },
-    pub ghost over: { IsOver (arity + variables) diagram },
-    pub ghost top: { is_model diagram (all_true (arity + variables)) ≡ true },
+    pub ghost size: { length sets.items ≡ arity },
+    pub ghost below: { AreBelow variables sets.items },
+    pub ghost over: { (at other : Assignment) → ((slot : ℕ) → slot < variables → at slot ≡ other slot)
+        → together factors.items at ≡ together factors.items other },
+    pub ghost top: { together factors.items (has_slot (all_true variables)) ≡ true },
+}
+
+/// Equal functions.
+pub(crate) fn copies(alloc: Global, functions: &[Bdd]) -> Result<Vec<Bdd>, AllocError>
+    ensures { IfOk result (λ all. all.items ≡ functions.now) }
+{
+    let mut all = Vec::new(alloc);
+    for function in functions {
+        all.push(function.copy(alloc)?)?;
+    }
+    Ok(all)
 }
 
 impl State {
-    ghost use Rattle.std.specs.Prelude.{List, ℕ};
-    ghost use Rattle.plai_assignments.specs.Assignments.{IsPositive};
+    ghost use Rattle.std.specs.Prelude.{filter};
+    ghost use Rattle.plai_bdd.specs.Nodes.{holds};
     ghost use Rattle.plai_assignments.specs.Groundness.{state_with};
-    ghost use Rattle.plai_pos.specs.Values.{state_of, IsDiagram, models_of};
+    ghost use Rattle.plai_pos.specs.Values.{state_of, IsPositiveBelow, models_in, determined};
 
-    /// The state at another place of the same clause.
-    pub(crate) fn with_diagram(&self, diagram: Bdd) -> State
-        requires diagram { IsDiagram (self.now.arity + self.now.variables) diagram }
-        ensures { state_of result ≡ state_with self.now.arity self.now.variables (models_of (self.now.arity + self.now.variables) diagram) }
+    /// The state at another place of the same clause, with these factors.
+    fn with_factors(&self, alloc: Global, factors: Vec<Bdd>) -> Result<State, AllocError>
+        requires { IsPositiveBelow self.now.variables (together factors.items) }
+        ensures { IfOk result (λ next. state_of next ≡ state_with self.now.arity self.now.variables
+            (determined self.now.arity self.now.variables self.now.sets.items (models_in self.now.variables (together factors.items)))) }
     {
-        State {
+        let sets = Vec::from_slice(alloc, self.sets.as_slice())?;
+        Ok(State {
             arity: self.arity,
             variables: self.variables,
-            diagram,
-        }
+            sets,
+            factors,
+        })
     }
 
-    /// The first slot behind the clause's.
-    pub(crate) fn end(&self) -> u32
-        ensures { result ≡ self.now.arity + self.now.variables }
+    /// An equal state.
+    pub(crate) fn copy(&self, alloc: Global) -> Result<State, AllocError>
+        ensures { IfOk result (λ next. state_of next ≡ state_of self.now) }
     {
-        self.arity + self.variables
+        let factors = copies(alloc, self.factors.as_slice())?;
+        self.with_factors(alloc, factors)
+    }
+
+    /// The state where this function is true as well.
+    pub(crate) fn with_factor(&self, alloc: Global, factor: Bdd) -> Result<State, AllocError>
+        requires { IsPositiveBelow self.now.variables (holds factor) }
+        ensures { IfOk result (λ next. state_of next ≡ state_with self.now.arity self.now.variables
+            (determined self.now.arity self.now.variables self.now.sets.items
+            (filter (λ y. holds factor (has_slot y)) (models_in self.now.variables (together self.now.factors.items))))) }
+    {
+        let mut factors = copies(alloc, self.factors.as_slice())?;
+        factors.push(factor)?;
+        self.with_factors(alloc, factors)
     }
 }

@@ -1,44 +1,46 @@
-use Rattle.std.proofs.Common.{◌≡◌, ◌+◌, ◌<◌, length, ◌∙◌, ap, sym, subst, arith}
-use Rattle.plai_assignments.specs.Assignments.{IsPositive, back_of}
-use Rattle.plai_bdd.specs.Nodes.{IsOver}
+use Rattle.std.proofs.Common.{◌≡◌, ◌^◌, length, filter, sym, ap, ◌∙◌, subst, arith}
+use Rattle.plai_base.proofs.Sets.{IsSet-kept}
+use Rattle.plai_base.specs.Mask.{has_slot}
+use Rattle.plai_base.specs.Sets.{has}
+use Rattle.plai_bdd.specs.Nodes.{holds}
+use Rattle.plai_bdd.specs.Product.{together}
 use Rattle.plai_bdd.proofs.Steps.{ok_then}
-use Rattle.plai_pos.specs.Values.{models_of, IsDiagramOf}
-use Rattle.plai_pos.proofs.Equal.{value_positive, state_positive}
-use Rattle.plai_pos.proofs.Terms.{set_at}
-use Rattle.plai_pos.proofs.Literals.{IsReplacing, replacing_none, replacing_more, answered}
+use Rattle.plai_assignments.specs.Groundness.{state_with}
+use Rattle.plai_pos.specs.TermSlots.{AreBelow}
+use Rattle.plai_pos.specs.Values.{IsDiagram, models_in, models_of}
+use Rattle.plai_pos.proofs.Alike.{positive_function}
+use Rattle.plai_pos.proofs.Equal.{value_diagram}
+use Rattle.plai_pos.proofs.Factors.{filter_models}
+use Rattle.plai_pos.proofs.Determined.{answered_whole}
 use Rattle.plai_pos.proofs.literal.back.Goals as goal
 
-pub loop-place-init : goal.loop-place-init
-loop-place-init c =
-    replacing_none c.args.state.now.arity c.args.state.now.variables c.args.args.now c.requires.below c.args.state.now.diagram c.args.state.now.canonical c.args.state.now.over c.requires.slots
-    c.args.answer.now.diagram c.args.answer.now.canonical (subst (λ k. IsOver k c.args.answer.now.diagram) c.requires.answer c.args.answer.now.over)
-    c.end-end.result c.in_ok-rest.rest c.end-end.ensures c.in_ok-rest.ensures
+pub preimage-requires-clause-slots : goal.preimage-requires-clause-slots
+preimage-requires-clause-slots c =
+    let seen : length c.as_slice.result.now ≡ length c.in_ok-sets.sets.items = ap length c.as_slice.ensures.value in
+    omega (arith, seen, c.in_ok-sets.ensures.size, c.requires.slots)
 
-pub loop-place-preserved : goal.loop-place-preserved
-loop-place-preserved c =
-    let are = c.in_ok-slots.ensures in
-    let place = c.loop-place.place in
-    let read = c.as_slice-all-items.ensures.value in
-    let inside : place < length c.in_ok-slots.slots.items = subst (λ xs. place < length xs) read c.loop-place-test.true in
-    let within : place < length c.args.args.now = omega (arith, are.size, inside) in
-    replacing_more c.args.state.now.arity c.args.state.now.variables c.args.args.now c.requires.below c.args.state.now.diagram c.args.state.now.canonical c.args.state.now.over c.requires.slots
-    c.args.answer.now.diagram c.args.answer.now.canonical (subst (λ k. IsOver k c.args.answer.now.diagram) c.requires.answer c.args.answer.now.over)
-    place (c.end-end.result + place) c.all-item.result c.loop-place.rest c.in_ok-rest-2.rest (ap (λ k. k + place) c.end-end.ensures) within
-    (λ at. set_at _ _ place c.all-item.result at read c.all-item.is inside ∙ are.truths place within at)
-    c.loop-place.invariant c.in_ok-rest-2.ensures
+pub preimage-requires-clause-below : goal.preimage-requires-clause-below
+preimage-requires-clause-below c = subst (AreBelow c.args.state.now.variables) (sym c.as_slice.ensures.value) c.in_ok-sets.ensures.below
+
+pub preimage-requires-clause-function : goal.preimage-requires-clause-function
+preimage-requires-clause-function c =
+    let size = ap length c.as_slice.ensures.value ∙ c.in_ok-sets.ensures.size in
+    subst (λ k. IsDiagram k c.args.answer.now.diagram) (c.requires.answer ∙ sym size) (value_diagram c.args.answer.now)
+
+pub with_factor-requires : goal.with_factor-requires
+with_factor-requires c = positive_function c.args.state.now.variables c.in_ok-known.known c.in_ok-known.ensures.diagram
 
 pub returns : goal.returns
 returns c =
-    let n = c.args.state.now.arity in
-    let v = c.args.state.now.variables in
-    let given = c.args.answer.now.diagram in
-    let gone : length c.in_ok-slots.slots.items ≡ length c.as_slice-all-items.result.now = ap length (sym c.as_slice-all-items.ensures.value) in
-    let all : c.loop-place.place ≡ length c.args.args.now = omega (arith, c.in_ok-slots.ensures.size, c.loop-place-test.false, c.loop-place.auto.place-end, gone) in
+    let s = c.args.state.now in
+    let given = c.args.answer.now in
+    let ys = models_in s.variables (together s.factors.items) in
+    let is = IsSet-kept (2 ^ s.variables) (λ y. together s.factors.items (has_slot y)) in
+    let made = filter_models s.variables (λ y. holds c.in_ok-known.known (has_slot y)) ys is ∙ ap (λ xs. filter (has xs) ys) c.in_ok-known.ensures.models in
     ok_then _ _
-    (λ b h. subst (λ k. IsDiagramOf (n + v) (back_of n v c.args.args.now (models_of k given) (models_of (n + v) c.args.state.now.diagram)) b) (sym c.requires.answer)
-    (answered n v c.args.args.now c.requires.below c.args.state.now.diagram
-    c.args.state.now.canonical c.args.state.now.over c.requires.slots
-    given c.args.answer.now.canonical (subst (λ k. IsOver k given) c.requires.answer c.args.answer.now.over)
-    c.loop-place.rest b (subst (λ i. IsReplacing n v c.args.args.now given i c.loop-place.rest) all c.loop-place.invariant) h
-    (state_positive c.args.state.now) (subst (λ k. IsPositive k (models_of k given)) c.requires.answer (value_positive c.args.answer.now))))
-    c.and.result c.and.ensures
+    (λ next h.
+    h ∙ ap (state_with s.arity s.variables)
+    (answered_whole s.arity s.variables s.sets.items ys s.size is
+    c.args.args.now c.requires.below c.in_ok-sets.sets.items c.in_ok-sets.ensures c.as_slice.result.now c.as_slice.ensures.value
+    (λ k. models_of k given.diagram) given.arity c.requires.answer (filter (λ y. holds c.in_ok-known.known (has_slot y)) ys) made))
+    c.with_factor.result c.with_factor.ensures

@@ -1,7 +1,7 @@
 use Rattle.std.proofs.Common.{◌&&◌, ◌∙◌, ap}
 use Rattle.plai_bdd.specs.Slots.{conjunction}
 use Rattle.plai_bdd.proofs.Steps.{ok_then}
-use Rattle.plai_pos.specs.Unified.{allowed_all}
+use Rattle.plai_pos.specs.TermSlots.{allowed_all}
 use Rattle.plai_pos.proofs.Masks.{conjunction-none}
 use Rattle.plai_pos.proofs.Allowed.{described, all_allowed}
 use Rattle.plai_pos.proofs.properties.describe.Goals as goal

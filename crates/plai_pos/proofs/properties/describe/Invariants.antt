@@ -1,7 +1,7 @@
 use Rattle.std.proofs.Common.{◌≡◌, ◌&&◌, drop}
 use Rattle.plai_bdd.specs.Assignment.{Assignment}
 use Rattle.plai_bdd.specs.Slots.{conjunction}
-use Rattle.plai_pos.specs.Unified.{allowed_all}
+use Rattle.plai_pos.specs.TermSlots.{allowed_all}
 use Rattle.plai_pos.proofs.properties.describe.Given as goal
 
 abbrev pub invariant-loop-property : goal.invariant-loop-property

@@ -1,4 +1,5 @@
 use Rattle.std.proofs.Common.{arith}
+use Rattle.plai_bdd.specs.Nodes.{holds}
 use Rattle.plai_bdd.proofs.Slots.{left_start, left_kept, left_none, some_meaning, some_free}
 use Rattle.plai_bdd.proofs.bdd.Bdd.exists.Goals as goal
 
@@ -13,8 +14,8 @@ returns-clause-function c = left_none c.args.slots c.loop-k.k c.args.self.now c.
 
 pub returns-clause-meaning : goal.returns-clause-meaning
 returns-clause-meaning c =
-    some_meaning c.args.slots c.args.self.now c.loop-k.rest (left_none c.args.slots c.loop-k.k c.args.self.now c.loop-k.rest (omega arith) c.loop-k.invariant)
+    some_meaning c.args.slots (holds c.args.self.now) c.loop-k.rest (left_none c.args.slots c.loop-k.k c.args.self.now c.loop-k.rest (omega arith) c.loop-k.invariant)
 
 pub returns-clause-free : goal.returns-clause-free
 returns-clause-free c =
-    some_free c.args.slots c.args.self.now c.loop-k.rest (left_none c.args.slots c.loop-k.k c.args.self.now c.loop-k.rest (omega arith) c.loop-k.invariant)
+    some_free c.args.slots (holds c.args.self.now) c.loop-k.rest (left_none c.args.slots c.loop-k.k c.args.self.now c.loop-k.rest (omega arith) c.loop-k.invariant)

@@ -1,0 +1,122 @@
+-- Conjunctions of several functions, and quantification of one slot of them.
+use Rattle.std.proofs.Common.{◌≡◌, ℕ, ◌+◌, Bool, true, false, cond, ◌&&◌, ◌||◌, List, [], ◌∷◌, ◌++◌, Option, Some, None, refl, sym, ap, subst, ◌∙◌}
+use Rattle.plai_base.specs.Mask.{has_slot}
+use Rattle.plai_bdd.specs.Assignment.{Assignment, with_slot, IsFree}
+use Rattle.plai_bdd.specs.declared.node.Node.{Node}
+use Rattle.plai_bdd.specs.Nodes.{holds, IsFunction}
+use Rattle.plai_bdd.specs.Slots.{some_hold, some_slot, quantified}
+use Rattle.plai_bdd.specs.Product.{together, joined_holds}
+use Rattle.plai_bdd.proofs.Branches.{some_unused}
+use Rattle.plai_bdd.proofs.Functions.{IsFunction-as}
+use Rattle.plai_bdd.proofs.Slots.{left_step, left_all}
+
+and_true : (a : Bool) → (a && true) ≡ a
+and_true true = refl
+and_true false = refl
+
+and_assoc : (a b c : Bool) → (a && (b && c)) ≡ ((a && b) && c)
+and_assoc true b c = refl
+and_assoc false b c = refl
+
+pub together-push : (fs : List (List Node)) (f : List Node) (at : Assignment) → together (fs ++ f ∷ []) at ≡ (together fs at && holds f at)
+together-push [] f at = and_true (holds f at)
+together-push (g ∷ fs) f at = ap (λ b. holds g at && b) (together-push fs f at) ∙ and_assoc (holds g at) (together fs at) (holds f at)
+
+-- the functions that are left to look at, those that don't depend on the slot, and the others, joined
+pub record IsParting (slot : ℕ) (given left rest : List (List Node)) (joined : Option (List Node)) : Type 0 where
+  pub free : IsFree (together rest) slot
+  pub whole : (at : Assignment) → ((together rest at && joined_holds joined at) && together left at) ≡ together given at
+
+pub parting_start : (slot : ℕ) (given : List (List Node)) → IsParting slot given given [] None
+parting_start slot given = record { free = λ at answer. refl; whole = λ at. refl }
+
+to_rest : (r f j l : Bool) → (((r && f) && j) && l) ≡ ((r && j) && (l && f))
+to_rest true true true true = refl
+to_rest true true true false = refl
+to_rest true true false l = refl
+to_rest true false true true = refl
+to_rest true false true false = refl
+to_rest true false false l = refl
+to_rest false f j l = refl
+
+to_joined : (r f j l : Bool) → ((r && (j && f)) && l) ≡ ((r && j) && (l && f))
+to_joined true true true true = refl
+to_joined true true true false = refl
+to_joined true true false l = refl
+to_joined true false true true = refl
+to_joined true false true false = refl
+to_joined true false false l = refl
+to_joined false f j l = refl
+
+module _ (slot : ℕ) (given was left rest : List (List Node)) (f : List Node) (joined : Option (List Node)) (popped : was ≡ left ++ f ∷ [])
+    (p : IsParting slot given was rest joined) where
+  was_whole : (at : Assignment) → ((together rest at && joined_holds joined at) && (together left at && holds f at)) ≡ together given at
+  was_whole at =
+      ap (λ b. (together rest at && joined_holds joined at) && b) (sym (ap (λ fs. together fs at) popped ∙ together-push left f at))
+      ∙ p.whole at
+
+  pub parting_rest : (longer : List (List Node)) → longer ≡ rest ++ f ∷ [] → IsFree (holds f) slot → IsParting slot given left longer joined
+  parting_rest longer e free = record {
+    free = λ at answer. at_longer (with_slot at slot answer) ∙ (λ i. p.free at answer i && free at answer i) ∙ sym (at_longer at);
+    whole = λ at.
+        ap (λ b. (b && joined_holds joined at) && together left at) (at_longer at)
+        ∙ to_rest (together rest at) (holds f at) (joined_holds joined at) (together left at) ∙ was_whole at;
+  }
+    where
+      at_longer : (at : Assignment) → together longer at ≡ (together rest at && holds f at)
+      at_longer at = ap (λ fs. together fs at) e ∙ together-push rest f at
+
+  pub parting_joined : (both : List Node) → ((at : Assignment) → holds both at ≡ (joined_holds joined at && holds f at)) → IsParting slot given left rest (Some both)
+  parting_joined both is = record {
+    free = p.free;
+    whole = λ at.
+        ap (λ b. (together rest at && b) && together left at) (is at)
+        ∙ to_joined (together rest at) (holds f at) (joined_holds joined at) (together left at) ∙ was_whole at;
+  }
+
+both_or : (r a b : Bool) → (r && (a || b)) ≡ ((r && a) || (r && b))
+both_or true a b = refl
+both_or false a b = refl
+
+module _ (mask slot : ℕ) (given rest : List (List Node)) where
+  -- what is left of the functions is what they are
+  pub parted_none : (left : List (List Node)) → left ≡ [] → IsParting slot given left rest None → (at : Assignment) → together rest at ≡ some_slot mask slot (together given) at
+  parted_none left e p at =
+      some_unused (together rest) slot p.free mask at ∙ ap (λ f. some_slot mask slot f at) (λ i other. all other i)
+    where
+      all : (at : Assignment) → together rest at ≡ together given at
+      all at =
+          sym (and_true (together rest at)) ∙ sym (and_true (together rest at && true))
+          ∙ ap (λ fs. (together rest at && true) && together fs at) (sym e) ∙ p.whole at
+
+  pub parted_some : (left : List (List Node)) (f one : List Node) (longer : List (List Node)) (b : Bool) → left ≡ [] → b ≡ has_slot mask slot → b ≡ true → longer ≡ rest ++ one ∷ []
+      → IsFunction one (λ at. holds f (with_slot at slot false) || holds f (with_slot at slot true)) → IsParting slot given left rest (Some f)
+      → (at : Assignment) → together longer at ≡ some_slot mask slot (together given) at
+  parted_some left f one longer b e has inside g is p at =
+      ap (λ fs. together fs at) g ∙ together-push rest one at
+      ∙ ap (λ c. together rest at && c) (is.answers at)
+      ∙ both_or (together rest at) (holds f (with_slot at slot false)) (holds f (with_slot at slot true))
+      ∙ (λ i. side false i || side true i)
+      ∙ sym (ap (λ c. cond c (together given (with_slot at slot false) || together given (with_slot at slot true)) (together given at)) (sym has ∙ inside))
+    where
+      side : (answer : Bool) → (together rest at && holds f (with_slot at slot answer)) ≡ together given (with_slot at slot answer)
+      side answer =
+          let other = with_slot at slot answer in
+          ap (λ c. c && holds f other) (sym (p.free at answer))
+          ∙ sym (and_true (together rest other && holds f other))
+          ∙ ap (λ fs. (together rest other && holds f other) && together fs other) (sym e) ∙ p.whole other
+
+-- the whole loop
+pub record IsQuantifying (mask bound : ℕ) (given rest : List (List Node)) : Type 0 where
+  pub left : (at : Assignment) → some_hold mask bound (together rest) at ≡ quantified mask (together given) at
+
+pub quantifying_start : (mask : ℕ) (given rest : List (List Node)) → rest ≡ given → IsQuantifying mask 64 given rest
+quantifying_start mask given rest e = record { left = λ at. ap (λ fs. quantified mask (together fs) at) e }
+
+pub quantifying_more : (mask n m : ℕ) (given rest new : List (List Node)) → m ≡ n + 1 → IsQuantifying mask m given rest
+    → ((at : Assignment) → together new at ≡ some_slot mask n (together rest) at) → IsQuantifying mask n given new
+quantifying_more mask n m given rest new e old step = record { left = left_step mask n m (together given) (together rest) (together new) e old.left step }
+
+pub quantifying_done : (mask n : ℕ) (given rest : List (List Node)) (t : List Node) → n ≡ 0 → IsQuantifying mask n given rest → IsFunction t (together rest)
+    → IsFunction t (quantified mask (together given))
+quantifying_done mask n given rest t e q is = IsFunction-as (left_all mask n (together given) (together rest) e q.left) is

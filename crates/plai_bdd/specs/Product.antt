@@ -1,0 +1,16 @@
+-- Conjunctions of several functions (Burch, Clarke and Long, "Symbolic Model Checking with Partitioned Transition Relations",
+-- VLSI 1991).
+use Rattle.std.specs.Prelude.{Bool, true, ◌&&◌, List, [], ◌∷◌, Option, Some, None}
+use Rattle.plai_bdd.specs.declared.node.Node.{Node}
+use Rattle.plai_bdd.specs.Assignment.{Assignment}
+use Rattle.plai_bdd.specs.Nodes.{holds}
+
+-- whether all of the functions are true
+abbrev pub together : List (List Node) → Assignment → Bool
+together [] at = true
+together (f ∷ fs) at = holds f at && together fs at
+
+-- whether the function is true, if there is one
+abbrev pub joined_holds : Option (List Node) → Assignment → Bool
+joined_holds None at = true
+joined_holds (Some f) at = holds f at

@@ -1,0 +1,47 @@
+-- Terms and the slots of their variables, for groundness: a term is true exactly where all its variables are
+-- (Marriott and Sondergaard 1993). Variable v is slot v.
+use Rattle.std.specs.Prelude.{◌≡◌, ℕ, ◌+◌, ◌-◌, ◌<◌, Bool, true, length, ◌&&◌, ◌↔◌, IsTrue, List, [], ◌∷◌, get_or}
+use Rattle.plai_base.specs.Mask.{has_slot, mask_of}
+use Rattle.plai_terms.specs.declared.term.Term.{Term, Var}
+use Rattle.plai_terms.specs.declared.prop.Prop.{Prop}
+use Rattle.plai_terms.specs.declared.prop.Prop.TheVariants as property
+use Rattle.plai_bdd.specs.declared.node.Node.{Node}
+use Rattle.plai_bdd.specs.Assignment.{Assignment}
+use Rattle.plai_bdd.specs.Nodes.{IsCanonical, holds as answer}
+use Rattle.plai_bdd.specs.Slots.{DifferWithin, conjunction}
+use Rattle.plai_assignments.specs.Assignments.{holds}
+
+-- the slots of the set are below v
+abbrev pub IsBelow : ℕ → ℕ → Type 0
+IsBelow v set = (slot : ℕ) → IsTrue (has_slot set slot) → slot < v
+
+-- the slots of the sets are below v
+abbrev pub AreBelow : ℕ → List ℕ → Type 0
+AreBelow v sets = (j : ℕ) → IsBelow v (get_or sets j 0)
+
+-- for each of the first terms, the slots of its variables, which are below v
+pub record AreSlotsOf (v count : ℕ) (terms : List Term) (sets : List ℕ) : Type 0 where
+  pub size : length sets ≡ count
+  pub below : AreBelow v sets
+  pub truths : (j : ℕ) → j < count → (at : Assignment) → conjunction (get_or sets j 0) at ≡ holds at (get_or terms j (Var 0))
+
+-- the terms' slots behind the first v have the truths of the terms
+abbrev pub AreUnified : ℕ → List ℕ → Assignment → Type 0
+AreUnified v sets at = (j : ℕ) → j < length sets → at (v + j) ≡ conjunction (get_or sets j 0) at
+
+-- what the set's slots give stands in place of the slot
+pub record IsSubstituted (slot set : ℕ) (old new : List Node) : Type 0 where
+  pub canonical : IsCanonical new
+  pub answers : (at : Assignment) → IsTrue (answer new at) ↔ (other : Assignment) × (DifferWithin (mask_of slot) other at × (IsTrue (answer old other) × (other slot ≡ conjunction set other)))
+
+-- the property allows the assignment: the argument that it says is ground is true
+abbrev pub allowed : Prop → Assignment → Bool
+allowed (property.Ground i) at = at (i - 1)
+allowed (property.Var i) at = true
+allowed (property.Nonvar i) at = true
+allowed (property.Int i) at = at (i - 1)
+allowed (property.Indep i j) at = true
+
+abbrev pub allowed_all : List Prop → Assignment → Bool
+allowed_all [] at = true
+allowed_all (p ∷ ps) at = allowed p at && allowed_all ps at
