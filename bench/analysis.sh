@@ -1,7 +1,9 @@
 #!/usr/bin/env bash
 # Measures how long an analysis takes from scratch: chains of predicates that shuffle their arguments (4, 8 and 12 of them, in
-# clauses of 12, 32 and 60 slots at the sizes 1, 2 and 3), programs over lists, and arithmetic with comparisons. The words are the
-# sizes, 1 2 3 where there are none, so that growth shows; a larger size has more predicates. Prints the number of rows and the time.
+# clauses of 12, 32 and 60 slots at the sizes 1, 2 and 3), programs over lists, arithmetic with comparisons, and clauses that copy
+# compounds of 8, 15 and 22 variables argument by argument, or put 5, 10 and 15 arguments into one compound, whose variables stand
+# far apart. The words are the sizes, 1 2 3 where there are none, so that growth shows; a larger size has more predicates. Prints
+# the number of rows and the time.
 set -eu
 here=$(cd "$(dirname "$0")/.." && pwd)
 folder=$(mktemp -d)
@@ -82,8 +84,23 @@ def repeated(text, count):
         yield text.replace("next@", f"all{(number + 1) % count}").replace("@", str(number))
 
 
+def records(size):
+    """Each predicate copies a compound argument by argument and puts arguments into a compound, and the next one takes two of them."""
+    fields, taken, count = 7 * size + 1, 5 * size, 10 * size
+    left, right = ([f"{letter}{i}" for i in range(fields)] for letter in "AB")
+    goals = ", ".join(f"same({a}, {b})" for a, b in zip(left, right))
+    some = ", ".join(left[:taken])
+    yield ":- entry copy0(X, Y)."
+    for number in range(count):
+        yield f"copy{number}(s({', '.join(left)}), s({', '.join(right)})) :- {goals}, make{number}({', '.join(right[:taken])}, _)."
+        follower = f" :- copy{number + 1}(A0, A1)" if number + 1 < count else ""
+        yield f"make{number}({some}, s({some})){follower}."
+    yield "same(X, X)."
+
+
 shapes = {
     "chain": chain,
+    "records": records,
     "lists": lambda size: repeated(LISTS, 10 * size * size),
     "arithmetic": lambda size: repeated(ARITHMETIC, 10 * size * size),
 }
@@ -94,7 +111,7 @@ for name, shape in shapes.items():
 PYTHON
 
 "$here/plai" "$here/examples/app.pl" < /dev/null > "$folder/out"
-for name in chain lists arithmetic; do
+for name in chain records lists arithmetic; do
   for size in "$@"; do
     file=$folder/${name}_$size.pl
     before=$(date +%s%N)

@@ -250,6 +250,11 @@ quantified-free mask slot lt e f at b =
 pub some_free : (mask : ℕ) (f : Assignment → Bool) (t : List Node) → IsFunction t (quantified mask f) → (slot : ℕ) → slot < 64 → IsTrue (has_slot mask slot) → IsFree (holds t) slot
 some_free mask f t h slot lt e at b = h.answers (with_slot at slot b) ∙ quantified-free mask slot lt e f at b ∙ sym (h.answers at)
 
+pub all_meaning : (mask : ℕ) (t : List Node) → IsFunction t (conjunction mask) → (at : Assignment) → IsTrue (holds t at) ↔ AllTrue mask at
+all_meaning mask t h at =
+    let d = all_hold-Decides mask 64 at in
+    (λ this. d.0 (sym (h.answers at) ∙ this), λ all. h.answers at ∙ d.1 all)
+
 beq-Decides : (a b : Bool) → IsTrue (beq a b) ↔ (IsTrue a ↔ IsTrue b)
 beq-Decides true true = (λ _. (λ h. h, λ h. h), λ _. refl)
 beq-Decides false false = (λ _. (λ h. h, λ h. h), λ _. refl)

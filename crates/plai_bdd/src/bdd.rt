@@ -145,7 +145,8 @@ impl Bdd {
 
     /// The function that all slots of the set are true.
     pub fn all_of(alloc: Global, all: Mask) -> Result<Bdd, AllocError>
-        ensures { IfOk result (λ b. IsFunction b (conjunction all)) }
+        ensures function { IfOk result (λ b. IsFunction b (conjunction all)) }
+        ensures meaning { IfOk result (λ b. (at : Assignment) → IsTrue (holds b at) ↔ AllTrue all at) }
     {
         match all.lowest() {
             None => Bdd::constant(alloc, true),

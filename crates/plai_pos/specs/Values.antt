@@ -1,4 +1,5 @@
--- Values and states as contracts see them.
+-- Values and states as contracts see them: positive Boolean functions, as sets of assignments (Marriott and Sondergaard 1993;
+-- Armstrong, Marriott, Schachte and Sondergaard 1998).
 use Rattle.std.specs.Prelude.{◌≡◌, ℕ, ◌+◌, ◌/◌, ◌%◌, ◌^◌, ◌<◌, Bool, true, ◌&&◌, nat_eq, List, map, length}
 use Rattle.plai_base.specs.Mask.{all_true, has_slot, pattern}
 use Rattle.plai_base.specs.Sets.{has, has_some, kept}

@@ -160,7 +160,15 @@ fn a_predicate_without_clauses_has_no_answer(rt: HostRuntime) -> Result<(), Fail
 #[test]
 fn tables_of_programs(rt: HostRuntime) -> Result<(), Fail> {
     let alloc = rt.alloc();
-    let cases: [(&[u8], &[u8]); 18] = [
+    let cases: [(&[u8], &[u8]); 20] = [
+        (
+            b":- module(m, []).\n:- entry p(X). p(X) :- q(f(A1,A2,A3,A4,A5,A6,A7,A8,A9,A10,A11,A12,A13,A14,A15,A16,A17,A18,A19,A20,A21,A22,A23,A24,A25,A26,A27,A28,A29,A30)). q(_).",
+            b"edit 0\nrow m:p/1 call t answer t\nrow m:q/1 call t answer t\nend\n",
+        ),
+        (
+            b":- module(m, []).\n:- entry copy(X,Y). copy(s(A1,A2,A3,A4,A5,A6,A7,A8,A9,A10,A11,A12,A13,A14,A15,A16,A17,A18,A19,A20,A21,A22,A23,A24), s(B1,B2,B3,B4,B5,B6,B7,B8,B9,B10,B11,B12,B13,B14,B15,B16,B17,B18,B19,B20,B21,B22,B23,B24)) :- e(A1,B1), e(A2,B2), e(A3,B3), e(A4,B4), e(A5,B5), e(A6,B6), e(A7,B7), e(A8,B8), e(A9,B9), e(A10,B10), e(A11,B11), e(A12,B12), e(A13,B13), e(A14,B14), e(A15,B15), e(A16,B16), e(A17,B17), e(A18,B18), e(A19,B19), e(A20,B20), e(A21,B21), e(A22,B22), e(A23,B23), e(A24,B24). e(X,X).",
+            b"edit 0\nrow m:copy/2 call t answer (1 (2 t f) (2 f t))\nrow m:e/2 call t answer (1 (2 t f) (2 f t))\nend\n",
+        ),
         (
             b":- module(m, []).\n:- entry len(X,Y) : ground(X). len([],z). len([_|T],s(N)) :- len(T,N).",
             b"edit 0\nrow m:len/2 call (1 t f) answer (1 (2 t f) f)\nend\n",

@@ -7,4 +7,4 @@ pub with_variables-requires-clause-slots : goal.with_variables-requires-clause-s
 with_variables-requires-clause-slots c = none_below c.args.variables _ c.empty.ensures
 
 pub returns : goal.returns
-returns c = ok_then _ _ (λ b h. IsFunction-as (alone _ _ _ c.empty.ensures c.with_variables.ensures.truth) h) c.all_of.result c.all_of.ensures
+returns c = ok_then _ _ (λ b h. IsFunction-as (alone _ _ _ c.empty.ensures c.with_variables.ensures.truth) h) c.all_of.result c.all_of.ensures.function
