@@ -32,7 +32,7 @@ module _ (v : ℕ) (fs : List (List Node)) (f : List Node) (longer : List (List 
 
 -- one function
 module _ (v : ℕ) (f : List Node) (fs : List (List Node)) (alone : fs ≡ f ∷ []) where
-  at_alone : (at : Assignment) → together fs at ≡ holds f at
+  pub at_alone : (at : Assignment) → together fs at ≡ holds f at
   at_alone at = ap (λ gs. together gs at) alone ∙ and_true (holds f at)
 
   pub positive_alone : IsPositiveBelow v (holds f) → IsPositiveBelow v (together fs)

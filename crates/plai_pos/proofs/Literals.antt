@@ -17,7 +17,7 @@ use Rattle.plai_bdd.proofs.Models.{mask_below, mask_below-lt, mask_below-slot}
 use Rattle.plai_assignments.proofs.Direct.{same_slots}
 use Rattle.plai_assignments.proofs.Parts.{value_kept}
 use Rattle.plai_pos.specs.Values.{models_of, models_in, terms_at, image, preimage, IsDiagram, IsDiagramOf, IsPositiveBelow}
-use Rattle.plai_pos.specs.TermSlots.{AreBelow, AreUnified, IsSubstituted}
+use Rattle.plai_pos.specs.TermSlots.{AreBelow, AreUnified}
 use Rattle.plai_pos.proofs.Alike.{TrueAlike, alike_of, diagram_of, other_slot, spliced, spliced_low, spliced_high, below_or_from}
 use Rattle.plai_pos.proofs.Masks.{IsRange, only_slot, own_slot, conjunction-alike}
 use Rattle.plai_pos.proofs.Determined.{conjunction_below, slot_at, terms_lt, top_terms}
@@ -38,6 +38,29 @@ range_projects mask first f room range at = (λ (there, (d, t)). (there, ((λ sl
     up : (there : Assignment) → ((slot : ℕ) → first ≤ slot → there slot ≡ at slot) → (slot : ℕ) → (slot < first) ⊎ (first ≤ slot) → (there slot ≡ at slot) ⊎ ((slot < 64) × IsTrue (has_slot mask slot))
     up there d slot (inl l) = inr (omega arith, (range slot).1 (omega arith, l))
     up there d slot (inr l) = inl (d slot l)
+
+-- at some assignment that differs from this one between the two slots alone
+abbrev pub Between : ℕ → ℕ → (Assignment → Type 0) → Assignment → Type 0
+Between first end P at = (other : Assignment) × (((slot : ℕ) → (slot < first) ⊎ (end ≤ slot) → other slot ≡ at slot) × P other)
+
+range_between : (mask first end : ℕ) (f : Assignment → Bool) → end ≤ 64 → IsRange mask first end → (at : Assignment) → Somewhere mask f at ↔ Between first end (λ other. IsTrue (f other)) at
+range_between mask first end f room range at = (
+  λ (there, (d, t)). (there, ((λ slot out. down there slot out (d slot)), t)),
+  λ (there, (d, t)). (there, ((λ slot. up there d slot (where_is slot first end)), t)),
+)
+  where
+    down : (there : Assignment) (slot : ℕ) → (slot < first) ⊎ (end ≤ slot) → (there slot ≡ at slot) ⊎ ((slot < 64) × IsTrue (has_slot mask slot)) → there slot ≡ at slot
+    down there slot out (inl e) = e
+    down there slot (inl l) (inr p) = absurd (omega (arith, ((range slot).0 p.1).0, l))
+    down there slot (inr l) (inr p) = absurd (omega (arith, ((range slot).0 p.1).1, l))
+
+    where_is : (slot first end : ℕ) → ((first ≤ slot) × (slot < end)) ⊎ ((slot < first) ⊎ (end ≤ slot))
+    where_is slot first end = grind arith
+
+    up : (there : Assignment) → ((slot : ℕ) → (slot < first) ⊎ (end ≤ slot) → there slot ≡ at slot) → (slot : ℕ) → ((first ≤ slot) × (slot < end)) ⊎ ((slot < first) ⊎ (end ≤ slot))
+        → (there slot ≡ at slot) ⊎ ((slot < 64) × IsTrue (has_slot mask slot))
+    up there d slot (inl within) = inr (omega (arith, within.1), (range slot).1 within)
+    up there d slot (inr out) = inl (d slot out)
 
 -- true of the variables, where the terms' slots are unified
 abbrev pub JoinedAt : ℕ → List ℕ → (Assignment → Bool) → Assignment → Type 0
@@ -84,15 +107,6 @@ joining_all v sets given i all e h at = (
   λ t. let q = (h.same at).0 t in (q.0, λ j l. q.1 j (omega (arith, l, e))),
   λ q. (h.same at).1 (q.0, λ j l. q.1 j (omega (arith, l, e))),
 )
-
--- the truths of the first terms, and the slots of the later ones
-abbrev pub mixed_slots : ℕ → List ℕ → ℕ → Assignment → Assignment
-mixed_slots v sets i at = spliced i (λ j. conjunction (get_or sets j 0) at) (λ j. at (j + v))
-
--- the truths of the first terms stand in place of their slots
-pub record IsReplacing (v : ℕ) (sets : List ℕ) (given : List Node) (i : ℕ) (rest : List Node) : Type 0 where
-  pub canonical : IsCanonical rest
-  pub answers : (at : Assignment) → IsTrue (answer rest at) ↔ IsTrue (answer given (mixed_slots v sets i at))
 
 module _ (v : ℕ) (sets : List ℕ) (below : AreBelow v sets) (room : v + length sets ≤ 64) where
   truth_alike : (j : ℕ) (at other : Assignment) → ((slot : ℕ) → slot < v → at slot ≡ other slot) → conjunction (get_or sets j 0) at ≡ conjunction (get_or sets j 0) other
@@ -203,115 +217,99 @@ module _ (v : ℕ) (sets : List ℕ) (below : AreBelow v sets) (room : v + lengt
 
   -- ---- from terms to variables
 
-  module _ (given : List Node) (d : IsDiagram (length sets) given) where
-    abbrev mixed : ℕ → Assignment → Assignment
-    mixed = mixed_slots v sets
-
-    abbrev Replacing : ℕ → List Node → Type 0
-    Replacing = IsReplacing v sets given
+  module _ (given : List Node) (d : IsDiagram (length sets) given) (raised : Assignment → Bool) (raises : (at : Assignment) → raised at ≡ answer given (λ slot. at (slot + v))) where
+    abbrev Raised : Assignment → Type 0
+    Raised = JoinedAt v sets raised
 
     terms_alike : TrueAlike (length sets) (answer given)
     terms_alike = alike_of (length sets) given d.canonical d.over
 
-    pub replacing_none : (end : ℕ) (rest : List Node) → end ≡ v → IsFunction rest (λ at. answer given (λ slot. at (slot + end))) → Replacing 0 rest
-    replacing_none end rest e h = record {
-      canonical = h.canonical;
-      answers = λ at.
-          let same : answer rest at ≡ answer given (mixed 0 at) =
-          h.answers at ∙ ap (λ k. answer given (λ slot. at (slot + k))) e
-          ∙ ap (answer given) (λ x j. sym (spliced_high 0 (λ j. conjunction (get_or sets j 0) at) (λ j. at (j + v)) j (omega arith)) x) in
-          (λ t. sym same ∙ t, λ t. same ∙ t);
-    }
+    raised_alike : (at other : Assignment) → ((slot : ℕ) → slot < v + length sets → at slot ≡ other slot) → Raised at → Raised other
+    raised_alike at other same p = (
+      raises other ∙ terms_alike (λ slot. at (slot + v)) (λ slot. other (slot + v)) (λ slot l. same (slot + v) (omega (arith, l))) (sym (raises at) ∙ p.0),
+      λ j l. sym (same (v + j) (omega (arith, l))) ∙ p.1 j l ∙ truth_alike j at other (λ slot less. same slot (omega (arith, less))),
+    )
 
-    module _ (i slot set : ℕ) (rest new : List Node) (is : slot ≡ v + i) (within : i < length sets)
-        (truths : (at : Assignment) → conjunction set at ≡ conjunction (get_or sets i 0) at) (so_far : Replacing i rest) (h : IsSubstituted slot set rest new) where
-      -- slots that differ in the term's alone
-      module _ (other at : Assignment) (same : (s : ℕ) → s ≢ slot → other s ≡ at s) (here : other slot ≡ conjunction (get_or sets i 0) other) where
-        truth_same : (j : ℕ) → conjunction (get_or sets j 0) other ≡ conjunction (get_or sets j 0) at
-        truth_same j = truth_alike j other at (λ s less. same s (λ e. omega (arith, less, is, e)))
+    -- the terms' slots go
+    pub replaced_is : (mask : ℕ) (f : Assignment → Bool) (made : List Node) → IsRange mask v (v + length sets) → ((at : Assignment) → IsTrue (answer made at) ↔ Somewhere mask f at)
+        → ((at : Assignment) → IsTrue (f at) ↔ Raised at) → (at : Assignment) → IsTrue (answer made at) ↔ Between v (v + length sets) Raised at
+    replaced_is mask f made range meaning says at =
+        let r = range_between mask v (v + length sets) f room range at in (
+          λ t. let (other, (q, h)) = r.0 ((meaning at).0 t) in (other, (q, (says other).0 h)),
+          λ (other, (q, h)). (meaning at).1 (r.1 (other, (q, (says other).1 h))),
+        )
 
-        mixed_at : (j : ℕ) → (j < i) ⊎ ((j ≡ i) ⊎ (i < j)) → mixed i other j ≡ mixed (i + 1) at j
-        mixed_at j (inl less) =
-            spliced_low i (λ j. conjunction (get_or sets j 0) other) (λ j. other (j + v)) j less ∙ truth_same j
-            ∙ sym (spliced_low (i + 1) (λ j. conjunction (get_or sets j 0) at) (λ j. at (j + v)) j (omega (arith, less)))
-        mixed_at j (inr (inl e)) =
-            let f : j + v ≡ slot = omega (arith, e, is) in
-            spliced_high i (λ j. conjunction (get_or sets j 0) other) (λ j. other (j + v)) j (omega (arith, e)) ∙ ap other f ∙ here
-            ∙ ap (λ k. conjunction (get_or sets k 0) other) (sym e) ∙ truth_same j
-            ∙ sym (spliced_low (i + 1) (λ j. conjunction (get_or sets j 0) at) (λ j. at (j + v)) j (omega (arith, e)))
-        mixed_at j (inr (inr more)) =
-            spliced_high i (λ j. conjunction (get_or sets j 0) other) (λ j. other (j + v)) j (omega (arith, more)) ∙ same (j + v) (λ e. omega (arith, more, is, e))
-            ∙ sym (spliced_high (i + 1) (λ j. conjunction (get_or sets j 0) at) (λ j. at (j + v)) j (omega (arith, more)))
+    module _ (made : List Node) (canonical : IsCanonical made) (meaning : (at : Assignment) → IsTrue (answer made at) ↔ Between v (v + length sets) Raised at) where
+      -- the variables' and the last slots of one assignment, and the terms' slots of another
+      moved : Assignment → Assignment → Assignment
+      moved at there = spliced v at (spliced (v + length sets) there at)
 
-        mixed_same : (j : ℕ) → mixed i other j ≡ mixed (i + 1) at j
-        mixed_same j = mixed_at j (three j i)
-          where
-            three : (j i : ℕ) → (j < i) ⊎ ((j ≡ i) ⊎ (i < j))
-            three j i = grind arith
+      moved_out : (at there : Assignment) (slot : ℕ) → (slot < v) ⊎ (v + length sets ≤ slot) → moved at there slot ≡ at slot
+      unfolding moved
+      moved_out at there slot (inl l) = spliced_low v at (spliced (v + length sets) there at) slot l
+      moved_out at there slot (inr l) =
+          spliced_high v at (spliced (v + length sets) there at) slot (omega (arith, l)) ∙ spliced_high (v + length sets) there at slot l
 
-      replaced_in : (at : Assignment) → IsTrue (answer new at) → IsTrue (answer given (mixed (i + 1) at))
-      replaced_in at t = by ((h.answers at).0 t)
+      moved_in : (at there : Assignment) (slot : ℕ) → v ≤ slot → slot < v + length sets → moved at there slot ≡ there slot
+      unfolding moved
+      moved_in at there slot le l =
+          spliced_high v at (spliced (v + length sets) there at) slot le ∙ spliced_low (v + length sets) there at slot l
+
+      -- what is true of terms' slots stays so where the variables do
+      moved_raised : (at there : Assignment) → ((slot : ℕ) → slot < v → there slot ≡ at slot) → Raised there → Raised (moved at there)
+      moved_raised at there same p = raised_alike there (moved at there) (λ slot l. by slot l (below_or_from slot v)) p
         where
-          alone_at : (other : Assignment) → ((s : ℕ) → (other s ≡ at s) ⊎ ((s < 64) × IsTrue (has_slot (mask_of slot) s))) → (s : ℕ) → s ≢ slot → other s ≡ at s
-          alone_at other q s ne = one (q s)
-            where
-              one : (other s ≡ at s) ⊎ ((s < 64) × IsTrue (has_slot (mask_of slot) s)) → other s ≡ at s
-              one (inl e) = e
-              one (inr p) = absurd (ne (only_slot slot s p.1))
-
-          by : (other : Assignment) × (DifferWithin (mask_of slot) other at × (IsTrue (answer rest other) × (other slot ≡ conjunction set other))) → IsTrue (answer given (mixed (i + 1) at))
-          by (other, (q, (r, e))) = terms_alike (mixed i other) (mixed (i + 1) at) (λ j l. mixed_same other at (alone_at other q) (e ∙ truths other) j) ((so_far.answers other).0 r)
-
-      replaced_out : (at : Assignment) → slot < 64 → IsTrue (answer given (mixed (i + 1) at)) → IsTrue (answer new at)
-      replaced_out at fits t =
-          let b = conjunction (get_or sets i 0) at in
-          let other = with_slot at slot b in
-          let same : (s : ℕ) → s ≢ slot → other s ≡ at s = λ s ne. other_slot at slot s b ne in
-          let unchanged : conjunction (get_or sets i 0) other ≡ b = truth_alike i other at (λ s less. same s (λ e. omega (arith, less, is, e))) in
-          let here : other slot ≡ conjunction (get_or sets i 0) other = with_slot_same at slot b ∙ sym unchanged in
-          (h.answers at).1 (
-            other,
-            (
-              (λ s. by b s (same_or_not s slot)),
-              ((so_far.answers other).1 (terms_alike (mixed (i + 1) at) (mixed i other) (λ j l. sym (mixed_same other at same here j)) t), here ∙ sym (truths other)),
-            ),
-          )
-        where
-          same_or_not : (s k : ℕ) → (s ≡ k) ⊎ (s ≢ k)
-          same_or_not s k = grind arith
-
-          by : (b : Bool) (s : ℕ) → (s ≡ slot) ⊎ (s ≢ slot) → (with_slot at slot b s ≡ at s) ⊎ ((s < 64) × IsTrue (has_slot (mask_of slot) s))
-          by b s (inl e) = inr (omega (arith, e, fits), subst (λ k. IsTrue (has_slot (mask_of slot) k)) (sym e) (own_slot slot))
-          by b s (inr ne) = inl (other_slot at slot s b ne)
-
-    pub replacing_more : (i slot set : ℕ) (rest new : List Node) → slot ≡ v + i → i < length sets → ((at : Assignment) → conjunction set at ≡ conjunction (get_or sets i 0) at)
-        → Replacing i rest → IsSubstituted slot set rest new → Replacing (i + 1) new
-    replacing_more i slot set rest new is within truths so_far h = record {
-      canonical = h.canonical;
-      answers = λ at. (replaced_in i slot set rest new is within truths so_far h at, replaced_out i slot set rest new is within truths so_far h at (omega (arith, room, is, within)));
-    }
-
-    module _ (made : List Node) (r : Replacing (length sets) made) where
-      mixed_truth : (at : Assignment) (j : ℕ) → j < length sets → mixed (length sets) at j ≡ conjunction (get_or sets j 0) at
-      mixed_truth at j l = spliced_low (length sets) (λ j. conjunction (get_or sets j 0) at) (λ j. at (j + v)) j l
+          by : (slot : ℕ) → slot < v + length sets → (slot < v) ⊎ (v ≤ slot) → there slot ≡ moved at there slot
+          by slot l (inl less) = same slot less ∙ sym (moved_out at there slot (inl less))
+          by slot l (inr le) = sym (moved_in at there slot le l)
 
       preimage_alike : TrueAlike v (answer made)
-      preimage_alike at other same t =
-          (r.answers other).1 (terms_alike (mixed (length sets) at) (mixed (length sets) other)
-          (λ j l. mixed_truth at j l ∙ truth_alike j at other same ∙ sym (mixed_truth other j l)) ((r.answers at).0 t))
-
-      mixed_slot : (y j : ℕ) → j < length sets → mixed (length sets) (has_slot y) j ≡ has_slot (terms_at sets y) j
-      mixed_slot y j l = mixed_truth (has_slot y) j l ∙ sym (slot_at sets y j l)
+      preimage_alike at other same t = by ((meaning at).0 t)
+        where
+          by : Between v (v + length sets) Raised at → IsTrue (answer made other)
+          by (there, (q, p)) = (meaning other).1 (moved other there, ((λ slot out. moved_out other there slot out), moved_raised other there (λ slot l. q slot (inl l) ∙ same slot l) p))
 
       preimage_in : (y : ℕ) → IsTrue (is_model made y) → has (models_of (length sets) given) (terms_at sets y) ≡ true
-      preimage_in y t =
-          kept_has (2 ^ length sets) (is_model given) (terms_at sets y) (terms_lt sets y)
-          (terms_alike (mixed (length sets) (has_slot y)) (has_slot (terms_at sets y)) (mixed_slot y) ((r.answers (has_slot y)).0 t))
+      preimage_in y t = by ((meaning (has_slot y)).0 t)
+        where
+          by : Between v (v + length sets) Raised (has_slot y) → has (models_of (length sets) given) (terms_at sets y) ≡ true
+          by (there, (q, p)) =
+              kept_has (2 ^ length sets) (is_model given) (terms_at sets y) (terms_lt sets y)
+              (terms_alike (λ slot. there (slot + v)) (has_slot (terms_at sets y))
+              (λ j l.
+              let e : j + v ≡ v + j = omega arith in
+              ap there e ∙ p.1 j l ∙ truth_alike j there (has_slot y) (λ slot less. q slot (inl less)) ∙ sym (slot_at sets y j l))
+              (sym (raises there) ∙ p.0))
+
+      -- the assignment, and the truths of the terms under it
+      unified_at : ℕ → Assignment
+      unified_at y = spliced v (has_slot y) (λ slot. has_slot (terms_at sets y) (slot - v))
+
+      unified_low : (y slot : ℕ) → slot < v → unified_at y slot ≡ has_slot y slot
+      unfolding unified_at
+      unified_low y slot l = spliced_low v (has_slot y) (λ slot. has_slot (terms_at sets y) (slot - v)) slot l
+
+      unified_high : (y j : ℕ) → unified_at y (v + j) ≡ has_slot (terms_at sets y) j
+      unfolding unified_at
+      unified_high y j =
+          let e : v + j - v ≡ j = omega arith in
+          spliced_high v (has_slot y) (λ slot. has_slot (terms_at sets y) (slot - v)) (v + j) (omega arith) ∙ ap (has_slot (terms_at sets y)) e
+
+      unified_raised : (y : ℕ) → IsTrue (is_model given (terms_at sets y)) → Raised (unified_at y)
+      unified_raised y t = (
+        raises (unified_at y)
+            ∙ terms_alike (has_slot (terms_at sets y)) (λ slot. unified_at y (slot + v))
+            (λ j l. let e : v + j ≡ j + v = omega arith in sym (unified_high y j) ∙ ap (unified_at y) e) t,
+        λ j l. unified_high y j ∙ slot_at sets y j l ∙ truth_alike j (has_slot y) (unified_at y) (λ slot less. sym (unified_low y slot less)),
+      )
 
       preimage_out : (y : ℕ) → has (models_of (length sets) given) (terms_at sets y) ≡ true → IsTrue (is_model made y)
       preimage_out y t =
           let g = has_kept (2 ^ length sets) (is_model given) (terms_at sets y) t in
-          (r.answers (has_slot y)).1 (terms_alike (has_slot (terms_at sets y)) (mixed (length sets) (has_slot y)) (λ j l. sym (mixed_slot y j l)) g.1)
+          (meaning (has_slot y)).1 (
+            moved (has_slot y) (unified_at y),
+            ((λ slot out. moved_out (has_slot y) (unified_at y) slot out), moved_raised (has_slot y) (unified_at y) (unified_low y) (unified_raised y g.1)),
+          )
 
       preimage_top : has (models_of (length sets) given) (terms_at sets (all_true v)) ≡ true
       preimage_top =
@@ -320,6 +318,6 @@ module _ (v : ℕ) (sets : List ℕ) (below : AreBelow v sets) (room : v + lengt
 
       pub preimage_is : IsDiagramOf v (preimage v sets (models_of (length sets) given)) made
       preimage_is =
-          diagram_of v (preimage v sets (models_of (length sets) given)) made r.canonical preimage_alike
+          diagram_of v (preimage v sets (models_of (length sets) given)) made canonical preimage_alike
           (kept_same (2 ^ v) (is_model made) (λ y. has (models_of (length sets) given) (terms_at sets y)) (λ y l. same_tests _ _ (preimage_in y) (preimage_out y)))
           (value_kept v (λ y. has (models_of (length sets) given) (terms_at sets y)) preimage_top)

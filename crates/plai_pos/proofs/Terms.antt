@@ -15,7 +15,7 @@ use Rattle.plai_bdd.specs.Slots.{conjunction, Somewhere, DifferWithin}
 use Rattle.plai_bdd.specs.Nodes.{IsCanonical, IsFunction, holds as answer}
 use Rattle.plai_assignments.specs.Assignments.{agree, holds}
 use Rattle.plai_assignments.proofs.Holds.{holds-Var}
-use Rattle.plai_pos.specs.TermSlots.{IsBelow, AreSlotsOf, IsSubstituted}
+use Rattle.plai_pos.specs.TermSlots.{IsBelow, AreSlotsOf}
 use Rattle.plai_pos.proofs.Masks.{no_slots, slot_or, conjunction-insert, conjunction-none}
 
 -- ---- variables within their limit
@@ -125,27 +125,6 @@ slots_more v i terms t slots new set at_i within below is e h = record {
     by : (j : ℕ) (at : Assignment) → (j < i) ⊎ (j ≡ i) → conjunction (get_or (slots ++ set ∷ []) j 0) at ≡ holds at (get_or terms j (Var 0))
     by j at (inl l) = ap (λ m. conjunction m at) (first j l) ∙ h.truths j l at
     by j at (inr q) = ap (λ m. conjunction m at) (seam j q) ∙ is at ∙ ap (holds at) (term_at terms i t at_i within) ∙ sym (ap (λ k. holds at (get_or terms k (Var 0))) q)
-
-pub substituted : (slot set one : ℕ) (old equivalence both new : List Node) → one ≡ mask_of slot → IsFunction equivalence (λ at. beq (at slot) (conjunction set at))
-    → IsFunction both (λ at. answer old at && answer equivalence at) → IsCanonical new → ((at : Assignment) → IsTrue (answer new at) ↔ Somewhere one (answer both) at)
-    → IsSubstituted slot set old new
-substituted slot set one old equivalence both new e f h canonical meaning = record {
-  canonical = canonical;
-  answers = λ at. (
-    λ t. out at (subst (λ m. Somewhere m (answer both) at) e ((meaning at).0 t)),
-    λ p. (meaning at).1 (subst (λ m. Somewhere m (answer both) at) (sym e) (back at p)),
-  );
-}
-  where
-    out : (at : Assignment) → Somewhere (mask_of slot) (answer both) at
-        → (other : Assignment) × (DifferWithin (mask_of slot) other at × (IsTrue (answer old other) × (other slot ≡ conjunction set other)))
-    out at (other, (d, t)) =
-        let p = and_parts (answer old other) (answer equivalence other) (sym (h.answers other) ∙ t) in
-        (other, (d, (p.0, beq_same (other slot) (conjunction set other) (sym (f.answers other) ∙ p.1))))
-
-    back : (at : Assignment) → (other : Assignment) × (DifferWithin (mask_of slot) other at × (IsTrue (answer old other) × (other slot ≡ conjunction set other)))
-        → Somewhere (mask_of slot) (answer both) at
-    back at (other, (d, (t, q))) = (other, (d, h.answers other ∙ and_from _ _ t (f.answers other ∙ same_beq (other slot) (conjunction set other) q)))
 
 -- what is read of a list of sets
 pub set_at : (seen sets : List ℕ) (j set : ℕ) (at : Assignment) → seen ≡ sets → set ≡ get_or seen j set → j < length sets → conjunction set at ≡ conjunction (get_or sets j 0) at

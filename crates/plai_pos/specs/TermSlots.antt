@@ -29,11 +29,6 @@ pub record AreSlotsOf (v count : ℕ) (terms : List Term) (sets : List ℕ) : Ty
 abbrev pub AreUnified : ℕ → List ℕ → Assignment → Type 0
 AreUnified v sets at = (j : ℕ) → j < length sets → at (v + j) ≡ conjunction (get_or sets j 0) at
 
--- what the set's slots give stands in place of the slot
-pub record IsSubstituted (slot set : ℕ) (old new : List Node) : Type 0 where
-  pub canonical : IsCanonical new
-  pub answers : (at : Assignment) → IsTrue (answer new at) ↔ (other : Assignment) × (DifferWithin (mask_of slot) other at × (IsTrue (answer old other) × (other slot ≡ conjunction set other)))
-
 -- the property allows the assignment: the argument that it says is ground is true
 abbrev pub allowed : Prop → Assignment → Bool
 allowed (property.Ground i) at = at (i - 1)

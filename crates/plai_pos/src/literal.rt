@@ -5,7 +5,7 @@ ghost use Rattle.plai_assignments.specs.Groundness.{state_with};
 ghost use Rattle.plai_bdd.specs.Assignment.{Assignment};
 ghost use Rattle.plai_bdd.specs.Product.{together};
 ghost use Rattle.plai_pos.specs.Values.{models_of, models_in, image, preimage, assignments_of, state_of, IsDiagram, IsDiagramOf, IsPositiveBelow};
-ghost use Rattle.plai_pos.specs.TermSlots.{AreBelow, AreUnified, IsSubstituted};
+ghost use Rattle.plai_pos.specs.TermSlots.{AreBelow, AreUnified};
 
 use crate::slots::{slots_from, slots_of};
 use crate::value::{State, Value, copies};
@@ -46,16 +46,6 @@ fn image(alloc: Global, functions: Vec<Bdd>, sets: &[Mask], end: u32) -> Result<
     known.shift_down(alloc, end)
 }
 
-/// The function where the slot's place is taken by what all slots of the set give.
-fn substitute(alloc: Global, rest: &Bdd, slot: u32, all: Mask) -> Result<Bdd, AllocError>
-    requires { slot < 64 }
-    ensures { IfOk result (λ b. IsSubstituted slot all rest.now b) }
-{
-    let equivalence = Bdd::iff_all(alloc, slot, all)?;
-    let both = rest.and(alloc, &equivalence)?;
-    both.exists(alloc, Mask::of(slot))
-}
-
 /// What is known of variables, the slots before `end`, where the function says what is known of terms, and each set has
 /// the slots of a term's variables: what the variables give stands in place of the terms.
 fn preimage(alloc: Global, function: &Bdd, sets: &[Mask], end: u32) -> Result<Bdd, AllocError>
@@ -64,11 +54,9 @@ fn preimage(alloc: Global, function: &Bdd, sets: &[Mask], end: u32) -> Result<Bd
     requires function { IsDiagram (length sets.now) function.now }
     ensures { IfOk result (λ b. IsDiagramOf end (preimage end sets.now (models_of (length sets.now) function.now)) b) }
 {
-    let mut rest = function.shift_up(alloc, end)?;
-    for (place, all) in sets.iter().enumerate() {
-        rest = substitute(alloc, &rest, end + place as u32, *all)?;
-    }
-    Ok(rest)
+    let raised = vec![in alloc; function.shift_up(alloc, end)?]?;
+    let unified = with_terms(alloc, raised, sets, end)?;
+    Bdd::and_exists(alloc, unified, slots_from(end, end + sets.len() as u32))
 }
 
 /// What is known of a clause's arguments and variables as it begins: the call, and each argument unified with the head's.
