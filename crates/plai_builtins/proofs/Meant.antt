@@ -123,7 +123,7 @@ module _ (n : ℕ) (s : Bindings) where
       (one_of n y (t ∷ l ∷ []) (λ v o. inl (or_second (occurs v t) (occurs_in v (l ∷ [])) (or_first (occurs v l) false (h v o))))) m
 
   made_level : (t l x : Term) (level : Term-F Term) (xs : List Term) → ((v : ℕ) → occurs_in v (x ∷ xs) ≡ true → occurs v l ≡ true)
-      → Meets (made_by t (x ∷ []) level xs) (Some s) → Composed n list_actions (t ∷ l ∷ []) s
+      → Meets (made_by t x level xs) (Some s) → Composed n list_actions (t ∷ l ∷ []) s
   made_level t l x (Term-F.Var v) xs h m = absurd cc
   made_level t l x (Term-F.Compound name args) xs h m = absurd cc
   made_level t l x (Term-F.Int z) [] h m = made_from t l x (λ v o. h v (or_first (occurs v x) false o)) m

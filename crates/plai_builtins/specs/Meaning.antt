@@ -82,11 +82,12 @@ number_in greatest _ = None
 abbrev pub number_up_to : ℕ → Term → Option ℕ
 number_up_to greatest t = number_in greatest (out-Term t)
 
--- `functor(T,N,A)` where T is a variable: T is N, where A is 0; T is N over A new variables, where N is an atom
+-- so many new variables, numbered from a first one on
 abbrev pub new_variables : ℕ → ℕ → List Term
 new_variables first zero = []
 new_variables first (suc k) = Var first ∷ new_variables (suc first) k
 
+-- `functor(T,N,A)` where T is a variable: T is N, where A is 0; T is N over A new variables, where N is an atom
 abbrev pub construct : ℕ → Term → Term → Term-F Term → Option ℕ → Demand
 construct fresh t n (Term-F.Int _) (Some zero) = Solve (t ∷ []) (n ∷ [])
 construct fresh t n (Term-F.Atom _) (Some zero) = Solve (t ∷ []) (n ∷ [])
@@ -109,16 +110,17 @@ abbrev pub arg_at : Term → Term → Term-F Term → Demand
 arg_at n a (Term-F.Compound name args) = given Never (λ x. Solve (x ∷ []) (a ∷ [])) (nth args (number_up_to (length args) n))
 arg_at n a _ = Never
 
--- `T =.. L` where T is a variable: it unifies with the term that the items of L make
-abbrev pub made_by : Term → List Term → Term-F Term → List Term → Demand
-made_by t items (Term-F.Int n) [] = Solve (t ∷ []) items
-made_by t items (Term-F.Atom name) [] = Solve (t ∷ []) items
-made_by t items (Term-F.Atom name) (x ∷ xs) = if nat_le (length (x ∷ xs)) 255 then Solve (t ∷ []) (Compound name (x ∷ xs) ∷ []) else Never
-made_by t items _ _ = Never
+-- `T =.. L` where T is a variable: it unifies with the term that the items of L make, an atom or integer alone, or the name
+-- of a compound and its arguments
+abbrev pub made_by : Term → Term → Term-F Term → List Term → Demand
+made_by t x (Term-F.Int n) [] = Solve (t ∷ []) (x ∷ [])
+made_by t x (Term-F.Atom name) [] = Solve (t ∷ []) (x ∷ [])
+made_by t x (Term-F.Atom name) (y ∷ ys) = if nat_le (length (y ∷ ys)) 255 then Solve (t ∷ []) (Compound name (y ∷ ys) ∷ []) else Never
+made_by t x _ _ = Never
 
 abbrev pub made_of : Term → List Term → Demand
 made_of t [] = Never
-made_of t (x ∷ xs) = made_by t (x ∷ []) (out-Term x) xs
+made_of t (x ∷ xs) = made_by t x (out-Term x) xs
 
 -- `T =.. L`: L unifies with the list of T's name and arguments (8.5.3)
 abbrev pub univ_at : Term → Term → Term-F Term → Demand
@@ -156,7 +158,8 @@ unary name t =
     else if is_named name (codes "compound") then Test (is_compound (out-Term t))
     else Never
 
--- of two arguments, but for comparisons: `X is E` gives E a value, and `copy_term(T,C)` makes C a copy of T
+-- of two arguments, but for comparisons: for `X is E` the value of E unifies with X, and for `copy_term(T,C)` C unifies with a
+-- copy of T, and only variables of C are bound
 abbrev pub binary : ℕ → List ℕ → Term → Term → Demand
 binary fresh name l r =
     if is_named name (codes "=") then Solve (l ∷ []) (r ∷ [])

@@ -140,7 +140,7 @@ fn made_of_name(
     others: &[&Term],
 ) -> Result<Option<Subst>, AllocError>
     requires { first.now ≡ Atom name.now }
-    ensures { IfOk result (λ found. Meets (made_by term.now (first.now ∷ []) (Term-F.Atom name.now) (referred others.now)) found) }
+    ensures { IfOk result (λ found. Meets (made_by term.now first.now (Term-F.Atom name.now) (referred others.now)) found) }
 {
     if others.is_empty() {
         solve_one(alloc, term, first)

@@ -1,4 +1,4 @@
-ghost use Rattle.std.specs.Prelude.{◌≡◌, true};
+ghost use Rattle.std.specs.Prelude.{◌≡◌, true, IfOk};
 ghost use Rattle.plai_terms.specs.Substitution.{AreBelow};
 
 use crate::{meaning, meanings_are_allowed};
@@ -56,15 +56,15 @@ fn terms(alloc: Global, words: &[&str]) -> Result<Vec<Term>, AllocError> {
 }
 
 // Whether each variable is below the number.
-fn are_below(limit: u32, terms: &[Term]) -> bool
-    ensures { result ≡ true → AreBelow limit terms.now }
+fn are_below(alloc: Global, limit: u32, terms: &[Term]) -> Result<bool, AllocError>
+    ensures { IfOk result (λ below. below ≡ true → AreBelow limit terms.now) }
 {
     for term in terms {
-        if !term.has_variables_below(limit) {
-            return false;
+        if !term.has_variables_below(alloc, limit)? {
+            return Ok(false);
         }
     }
-    true
+    Ok(true)
 }
 
 // `no`, or the bindings, each with a space behind it.
@@ -87,7 +87,7 @@ fn shown(alloc: Global, found: &Option<Subst>) -> Result<Vec<u8>, AllocError> {
 // What the builtin means at these arguments.
 fn meant(alloc: Global, name: &str, words: &[&str]) -> Result<Vec<u8>, AllocError> {
     let args = terms(alloc, words)?;
-    if are_below(FRESH, &args) {
+    if are_below(alloc, FRESH, &args)? {
         let found = meaning(alloc, &named(alloc, name.as_bytes())?, &args, FRESH)?;
         shown(alloc, &found)
     } else {
@@ -95,12 +95,19 @@ fn meant(alloc: Global, name: &str, words: &[&str]) -> Result<Vec<u8>, AllocErro
     }
 }
 
-// The substitutions of this table and the next are those of an implementation in Python.
+// The substitutions of this table and the next are those of an implementation in Python; what comparisons answer at numbers
+// and atoms is told by the standard.
 #[test]
 fn tests_bind_nothing(rt: HostRuntime) -> Result<(), Fail> {
     meanings_are_allowed();
     let alloc = rt.alloc();
-    assert_eq!(rt; meant(alloc, "true", &[])?.as_slice(), b"".as_slice());
+    for name in ["true", "!", "nl"] {
+        assert_eq!(rt;
+            meant(alloc, name, &[])?.as_slice(),
+            b"".as_slice(),
+            "{name}"
+        );
+    }
     assert_eq!(rt; meant(alloc, "fail", &[])?.as_slice(), b"no".as_slice());
     for (name, words, wanted) in [
         ("write", ["_0"].as_slice(), ""),
@@ -110,6 +117,10 @@ fn tests_bind_nothing(rt: HostRuntime) -> Result<(), Fail> {
         ("==", &["_0", "_1"], "no"),
         ("\\==", &["_0", "_1"], ""),
         ("@<", &["_0", "1"], ""),
+        ("@=<", &["a", "a"], ""),
+        ("@=<", &["b", "a"], "no"),
+        ("@>", &["a", "1"], ""),
+        ("@>", &["a", "a"], "no"),
         ("@>=", &["a", "b"], "no"),
         ("var", &["_0"], ""),
         ("nonvar", &["_0"], "no"),
@@ -120,6 +131,14 @@ fn tests_bind_nothing(rt: HostRuntime) -> Result<(), Fail> {
         ("integer", &["1"], ""),
         ("compound", &["_0", "f/1"], ""),
         ("=:=", &["2", "1", "1", "+/2"], ""),
+        ("=\\=", &["1", "2"], ""),
+        ("=\\=", &["2", "1", "1", "+/2"], "no"),
+        ("<", &["1", "2"], ""),
+        ("<", &["2", "1", "1", "+/2"], "no"),
+        ("=<", &["2", "1", "1", "+/2"], ""),
+        ("=<", &["2", "1"], "no"),
+        (">", &["2", "1"], ""),
+        (">", &["2", "1", "1", "+/2"], "no"),
         (">=", &["_0", "1"], "no"),
         ("p", &["_0"], "no"),
     ] {

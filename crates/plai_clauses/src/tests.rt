@@ -73,7 +73,7 @@ fn check_said<R: AllocGlobal + Abort>(
     let alloc = rt.alloc();
     let read = ReadTerm { term, variables };
     assert!(rt;
-        read.term.has_variables_below(variables) && variables < 1000 && !is_wide(&read.term)
+        read.term.has_variables_below(alloc, variables)? && variables < 1000 && !is_wide(&read.term)
     );
     let imports = Imports::new(vec![in alloc; (name(alloc, "q")?, 0, name(alloc, "n")?)]?);
     match Clause::from_term(alloc, &name(alloc, "m")?, &imports, &read) {
@@ -310,7 +310,7 @@ fn add_fact<R: AllocGlobal + Abort>(
     let alloc = rt.alloc();
     let term = term(alloc, text, vec![in alloc; Term::Int(number)]?)?;
     let read = ReadTerm { term, variables: 0 };
-    assert!(rt; read.term.has_variables_below(0) && !is_wide(&read.term));
+    assert!(rt; read.term.has_variables_below(alloc, 0)? && !is_wide(&read.term));
     assert!(rt; program.module(home).is_some());
     match Clause::from_term(alloc, home, &Imports::new(Vec::new(alloc)), &read) {
         Ok(clause) => program.add_clause(alloc, home, clause)?,

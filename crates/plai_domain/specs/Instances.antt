@@ -1,4 +1,5 @@
--- Tuples of terms and their properties, instances of clauses, and what the actions of builtins allow (Muthukumar and Hermenegildo 1992).
+-- Tuples of terms and their properties, instances of clauses, and what the actions of builtins allow in a wider sense (Muthukumar
+-- and Hermenegildo 1992).
 use Rattle.std.specs.Prelude.{◌≡◌, ℕ, suc, ◌-◌, ◌^◌, ◌<◌, ◌≤◌, ℤ, Bool, true, ◌&&◌, All, List, [], ◌∷◌, slice_index_or}
 use Rattle.plai_terms.specs.declared.term.Term.{Term, Var, Int}
 use Rattle.plai_terms.specs.declared.prop.Prop.{Prop}

@@ -14,5 +14,6 @@ pub use action::Action;
 pub use dom_fail::DomFail;
 pub use domain::Domain;
 pub use key::Key;
+pub use plai_terms::{Abs, RowName, Skeleton};
 pub use work::{Tally, Work, WorkEntry};
 pub use work_log::WorkLog;

@@ -123,7 +123,7 @@ fn clause_of<R: AllocGlobal + Abort>(rt: &R, body: Term) -> Result<Clause, Fail>
     let head = compound(alloc, "p", [Term::Var(0)].as_slice())?;
     let term = compound(alloc, ":-", [head, body].as_slice())?;
     let read = ReadTerm { term, variables: 1 };
-    assert!(rt; read.term.has_variables_below(1) && !is_wide(&read.term));
+    assert!(rt; read.term.has_variables_below(alloc, 1)? && !is_wide(&read.term));
     let imports = Imports::new(Vec::new(alloc));
     Ok(Clause::from_term(alloc, &name(alloc, "m")?, &imports, &read)?)
 }

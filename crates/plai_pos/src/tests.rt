@@ -1,4 +1,4 @@
-ghost use Rattle.std.specs.Prelude.{◌≡◌, ◌<◌};
+ghost use Rattle.std.specs.Prelude.{◌≡◌, ◌<◌, IfOk};
 ghost use Rattle.plai_domain.specs.Instances.{all_below};
 
 use crate::{Ground, State, Value};
@@ -35,15 +35,15 @@ fn has_models(
     Ok(domain.to_abs(alloc, value)? == Abs::Pos(arity, Listed::new(masks)))
 }
 
-fn are_below(limit: u32, terms: &[Term]) -> bool
-    ensures { result ≡ all_below limit terms.now }
+fn are_below(alloc: Global, limit: u32, terms: &[Term]) -> Result<bool, AllocError>
+    ensures { IfOk result (λ below. below ≡ all_below limit terms.now) }
 {
     for term in terms {
-        if !term.has_variables_below(limit) {
-            return false;
+        if !term.has_variables_below(alloc, limit)? {
+            return Ok(false);
         }
     }
-    true
+    Ok(true)
 }
 
 #[test]
@@ -54,7 +54,7 @@ fn facts_answer_a_call(rt: HostRuntime) -> Result<(), Fail> {
     assert!(&rt; has_models(alloc, &domain, &call, 2, &[1, 3])?);
 
     let atoms = vec![in alloc; atom(alloc, "a")?, atom(alloc, "b")?]?;
-    assert!(&rt; are_below(0, atoms.as_slice()));
+    assert!(&rt; are_below(alloc, 0, atoms.as_slice())?);
     let state = domain
         .enter(alloc, &call, atoms.as_slice(), 0)?
         .expect(&rt, "a state");
@@ -62,7 +62,7 @@ fn facts_answer_a_call(rt: HostRuntime) -> Result<(), Fail> {
     assert!(&rt; has_models(alloc, &domain, &first, 2, &[3])?);
 
     let head = vec![in alloc; f_of_z(alloc)?, Term::Var(0)]?;
-    assert!(&rt; are_below(1, head.as_slice()));
+    assert!(&rt; are_below(alloc, 1, head.as_slice())?);
     let state = domain
         .enter(alloc, &call, head.as_slice(), 1)?
         .expect(&rt, "a state");
@@ -78,7 +78,7 @@ fn a_literal_is_called_and_answered(rt: HostRuntime) -> Result<(), Fail> {
     let domain = Ground::new();
     let head = vec![in alloc; Term::Var(0)]?;
     let args = vec![in alloc; Term::Var(0), Term::Var(1)]?;
-    assert!(&rt; are_below(2, head.as_slice()) && are_below(2, args.as_slice()));
+    assert!(&rt; are_below(alloc, 2, head.as_slice())? && are_below(alloc, 2, args.as_slice())?);
     let call = domain.describe(alloc, 1, &[])?;
     let state = domain
         .enter(alloc, &call, head.as_slice(), 2)?
@@ -129,7 +129,7 @@ fn sixteen_open_arguments(rt: HostRuntime) -> Result<(), Fail> {
     let domain = Ground::new();
     let call = domain.describe(alloc, 16, &[])?;
     let head = open_head(alloc, 16)?;
-    assert!(&rt; head.len() == 16 && are_below(16, head.as_slice()));
+    assert!(&rt; head.len() == 16 && are_below(alloc, 16, head.as_slice())?);
     let state = domain
         .enter(alloc, &call, head.as_slice(), 16)?
         .expect(&rt, "a state");
@@ -158,7 +158,7 @@ fn thirty_variables_in_one_argument(rt: HostRuntime) -> Result<(), Fail> {
     let open = domain.describe(alloc, 1, &[])?;
     let ground = domain.describe(alloc, 1, &[Prop::Ground(1)])?;
     let args = vec![in alloc; f_of_variables(alloc, 30)?]?;
-    assert!(&rt; args.len() == 1 && are_below(30, args.as_slice()));
+    assert!(&rt; args.len() == 1 && are_below(alloc, 30, args.as_slice())?);
     let state = domain
         .enter(alloc, &open, args.as_slice(), 30)?
         .expect(&rt, "a state");

@@ -30,3 +30,4 @@ pub mod Terms
 pub mod Total
 pub mod Under
 pub mod Preorder
+pub mod Within

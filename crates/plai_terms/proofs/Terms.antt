@@ -6,12 +6,6 @@ use Rattle.plai_terms.specs.declared.term.Term.{Term, Var, Int, Atom, Compound, 
 use Rattle.plai_terms.specs.declared.term.Term.TheOpen.{Term-F}
 use Rattle.plai_terms.specs.declared.term.Term.TheVariants.{rolls-Var, rolls-Int, rolls-Atom, rolls-Compound}
 
-pub depth_of-Var : (v : ℕ) → depth_of (Var v) ≡ 1
-depth_of-Var v = search (rules, the_lemmas)
-
-pub depth_of-Compound : (name : List ℕ) (args : List Term) → depth_of (Compound name args) ≡ 1 + fold max 0 (map depth_of args)
-depth_of-Compound name args = search (rules, the_lemmas)
-
 pub occurs-Compound : (v : ℕ) (name : List ℕ) (args : List Term) → occurs v (Compound name args) ≡ list_any (λ b. b) (map (occurs v) args)
 occurs-Compound v name args = search (rules, the_lemmas)
 

@@ -183,9 +183,6 @@ reaches_in f v w there (a ∷ args) e =
     ]
 
 -- lists of bindings
-pub apply_of-under : (s : List (ℕ × Term)) (t : Term) → apply_of s t ≡ under (bound_to s) t
-apply_of-under s t = refl
-
 put_in : (b : Bool) (second : List (ℕ × Term)) (t rest rest' : Term) → rest ≡ apply_of second rest' → cond b (apply_of second t) rest ≡ apply_of second (cond b t rest')
 put_in true second t rest rest' e = refl
 put_in false second t rest rest' e = e

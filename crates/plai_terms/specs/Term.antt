@@ -71,3 +71,11 @@ is_variable_at v _ = false
 -- the term is the variable
 unfoldable pub is_variable : ℕ → Term → Bool
 is_variable v t = is_variable_at v (out-Term t)
+
+abbrev pub is_within_at : ℕ → Term-F Term → Bool
+is_within_at limit (Term-F.Var v) = nat_lt v limit
+is_within_at limit _ = true
+
+-- the term itself is no variable from the limit on
+unfoldable pub is_within : ℕ → Term → Bool
+is_within limit t = is_within_at limit (out-Term t)

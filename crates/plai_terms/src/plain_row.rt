@@ -5,6 +5,8 @@ use crate::row_name::RowName;
 /// `Abs::Nothing` where there is none.
 #[derive(Debug, Drop)]
 pub struct PlainRow {
+    /// The predicate, and the pattern of its calls.
     pub name: RowName,
+    /// The pattern of the answers.
     pub answer: Abs,
 }

@@ -5,7 +5,7 @@ use std::alloc::{AllocError, Global};
 
 /// A term as it was read, and how many variables it has. They are numbered from 0 in the order in which
 /// they first stand there.
-#[derive(Debug, PartialEq, Eq, Hash, Drop)]
+#[derive(Debug, PartialEq, Eq, Drop)]
 pub struct ReadTerm {
     /// The term, whose variables are numbered below `variables`.
     pub term: Term,

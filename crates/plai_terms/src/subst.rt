@@ -74,7 +74,8 @@ impl Subst {
 
     /// The bindings.
     pub fn as_slice(&self) -> &[(u32, Term)]
-        ensures { result.now ≡ self.now }
+        ensures pairs { result.now ≡ self.now }
+        ensures distinct { IsDistinct nat_eq (map (λ p. p.0) self.now) }
     {
         self.pairs.as_slice()
     }

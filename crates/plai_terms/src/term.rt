@@ -1,7 +1,6 @@
-ghost use Rattle.std.specs.Prelude.{◌≡◌, ◌-◌, ◌^◌, min, IfOk, List, ◌∷◌};
+ghost use Rattle.std.specs.Prelude.{◌≡◌, IfOk, List, ◌∷◌};
 ghost use Rattle.plai_terms.specs.declared.term.Term.{Term, Compound};
 ghost use Rattle.plai_terms.specs.Preorder.{arguments_of};
-ghost use Rattle.plai_terms.specs.Term.{depth_of, is_ground, occurs, has_variables_below};
 
 use crate::name::Name;
 use crate::non_empty::NonEmpty;
@@ -15,10 +14,10 @@ pub type Args = NonEmpty<Term>;
 /// A term (ISO/IEC 13211-1:1995, 6.1.2 and 7.1). Contracts see it as data, with a name as its bytes and
 /// arguments as a list.
 ///
-/// A term may be of any depth: copying, substituting, unifying, printing and letting go of it keep a stack of their
-/// own. `==`, `Hash` and `Debug` call themselves once for each level, and so do `occurs`, `is_ground`,
-/// `has_variables_below` and `depth`: they are for terms that were read, which are 2,000 levels deep at most.
-#[derive(Debug, PartialEq, Eq, Hash)]
+/// A term may be of any depth: what walks it here keeps a stack of its own, and so does letting go of it. `==` and
+/// `Debug` alone call themselves once for each level: they are for terms that were read, which are 2,000 levels deep at
+/// most.
+#[derive(Debug, PartialEq, Eq)]
 pub enum Term {
     /// A variable, by its number from 0.
     Var(u32),
@@ -87,79 +86,6 @@ impl Term {
             done.push(term)?;
         }
         Ok(take_last(&mut done))
-    }
-}
-
-impl Term {
-    /// Whether the variable occurs in the term. It calls itself once for each level.
-    pub fn occurs(&self, variable: u32) -> bool
-        ensures { result ≡ occurs variable self.now }
-    {
-        match self {
-            Term::Var(number) => variable == *number,
-            Term::Int(_) | Term::Atom(_) => false,
-            Term::Compound(_, args) => {
-                for arg in args.as_slice() {
-                    if arg.occurs(variable) {
-                        return true;
-                    }
-                }
-                false
-            }
-        }
-    }
-
-    /// Whether the term has no variables. It calls itself once for each level.
-    pub fn is_ground(&self) -> bool
-        ensures { result ≡ is_ground self.now }
-    {
-        match self {
-            Term::Var(_) => false,
-            Term::Int(_) | Term::Atom(_) => true,
-            Term::Compound(_, args) => {
-                for arg in args.as_slice() {
-                    if !arg.is_ground() {
-                        return false;
-                    }
-                }
-                true
-            }
-        }
-    }
-
-    /// Whether each variable is numbered below `limit`. It calls itself once for each level.
-    pub fn has_variables_below(&self, limit: u32) -> bool
-        ensures { result ≡ has_variables_below limit self.now }
-    {
-        match self {
-            Term::Var(number) => *number < limit,
-            Term::Int(_) | Term::Atom(_) => true,
-            Term::Compound(_, args) => {
-                for arg in args.as_slice() {
-                    if !arg.has_variables_below(limit) {
-                        return false;
-                    }
-                }
-                true
-            }
-        }
-    }
-
-    /// How deep the term is, or the largest `u32`: a variable, an integer and an atom are 1 deep, and a
-    /// compound is one deeper than its deepest argument. It calls itself once for each level.
-    pub fn depth(&self) -> u32
-        ensures { result ≡ min (depth_of self.now) (2 ^ 32 - 1) }
-    {
-        match self {
-            Term::Var(_) | Term::Int(_) | Term::Atom(_) => 1,
-            Term::Compound(_, args) => {
-                let mut deepest: u32 = 0;
-                for arg in args.as_slice() {
-                    deepest = deepest.max(arg.depth());
-                }
-                deepest.saturating_add(1)
-            }
-        }
     }
 }
 

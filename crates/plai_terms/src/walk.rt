@@ -1,7 +1,8 @@
 // Walks over terms with a stack on the heap, for terms of any depth.
-ghost use Rattle.std.specs.Prelude.{◌≡◌, ◌++◌, IfOk, reverse};
-ghost use Rattle.plai_terms.specs.Term.{is_variable, occurs};
+ghost use Rattle.std.specs.Prelude.{◌≡◌, ◌++◌, true, IfOk, reverse};
+ghost use Rattle.plai_terms.specs.Term.{has_variables_below, is_variable, is_within, occurs};
 ghost use Rattle.plai_terms.specs.Preorder.{arguments_of, preorder, referred};
+ghost use Rattle.plai_terms.specs.Substitution.{IsBelow};
 
 use crate::term::Term;
 use std::alloc::{AllocError, Global};
@@ -24,6 +25,16 @@ fn is_variable(term: &Term, variable: u32) -> bool
     match term {
         Term::Var(number) => variable == *number,
         _ => false,
+    }
+}
+
+// Whether the term is no variable from the limit on.
+fn is_within(term: &Term, limit: u32) -> bool
+    ensures { result ≡ is_within limit term.now }
+{
+    match term {
+        Term::Var(number) => *number < limit,
+        _ => true,
     }
 }
 
@@ -63,5 +74,19 @@ impl Term {
             put_all(term.arguments(), &mut waiting)?;
         }
         Ok(nodes)
+    }
+
+    /// Whether each variable of the term, which may be of any depth, is numbered below `limit`.
+    pub fn has_variables_below(&self, alloc: Global, limit: u32) -> Result<bool, AllocError>
+        ensures answer { IfOk result (λ below. below ≡ has_variables_below limit self.now) }
+        ensures below { IfOk result (λ below. below ≡ true → IsBelow limit self.now) }
+    {
+        let nodes = self.nodes(alloc)?;
+        for node in &nodes {
+            if !is_within(node, limit) {
+                return Ok(false);
+            }
+        }
+        Ok(true)
     }
 }

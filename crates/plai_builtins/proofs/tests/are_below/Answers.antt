@@ -6,7 +6,7 @@ pub loop-term-preserved : goal.loop-term-preserved
 loop-term-preserved c below =
     c.loop-term.invariant
     (one_below c.args.limit c.args.terms.now c.loop-term.term-index c.term-item.result c.loop-term-test.true c.term-item.is
-    (sym c.has_variables_below.ensures ∙ c.if-not-has_variables_below.false) below)
+    (c.in_ok-has_variables_below.ensures.below c.if-not-branch.false) below)
 
 pub returns : goal.returns
 returns c e = c.loop-term.invariant (none_below c.args.limit c.args.terms.now c.loop-term.term-index c.loop-term-test.false)
