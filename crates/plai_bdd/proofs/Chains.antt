@@ -1,5 +1,6 @@
 -- Chains: how the diagram of a conjunction grows, slot by slot.
 use Rattle.std.proofs.Common.{◌≡◌, ◌≢◌, ℕ, ◌+◌, ◌-◌, ◌<◌, ◌≤◌, Bool, true, false, cond, not, nat_eq, ◌&&◌, ◌||◌, IsTrue, List, [], ◌∷◌, ◌++◌, length, get_or, refl, sym, ap, subst, ◌∙◌, true≢false, arith, ◌⊎◌, inl, inr, length-append}
+use Rattle.std.proofs.Math.Bool.{and-true}
 use Rattle.std.proofs.lemmas.Bool.Decides.{nat_tests}
 use Rattle.plai_base.specs.Mask.{has_slot}
 use Rattle.plai_bdd.specs.Assignment.{Assignment}
@@ -13,7 +14,7 @@ use Rattle.plai_bdd.proofs.Lists.{puts}
 use Rattle.plai_bdd.proofs.Tables.{IsTable-empty}
 use Rattle.plai_bdd.proofs.Adding.{Adds-as, Adds-leaf, Adds-there, Adds-join}
 use Rattle.plai_bdd.proofs.Canonical.{finished}
-use Rattle.plai_bdd.proofs.Functions.{constant_is, IsFunction-as}
+use Rattle.plai_bdd.proofs.Functions.{IsFunction-as}
 use Rattle.plai_bdd.proofs.Shown.{no_slots}
 use Rattle.plai_bdd.proofs.Slots.{all_hold-more, all_hold-none, all_hold-Decides}
 
@@ -21,17 +22,13 @@ use Rattle.plai_bdd.proofs.Slots.{all_hold-more, all_hold-none, all_hold-Decides
 bottom : (least : ℕ) → Adds [] 0 (Leaf false ∷ []) least (λ _. false)
 bottom least = Adds-leaf false [] least IsTable-empty
 
-and_true : (a : Bool) → (a && true) ≡ a
-and_true true = refl
-and_true false = refl
-
 pub chain_start : (all : ℕ) → IsChain all 64 (Leaf false ∷ Leaf true ∷ [])
 chain_start all = record {
   rest = λ _. true;
   leaves = omega arith;
   inner = Adds-leaf true (Leaf false ∷ []) 64 (bottom 64).table;
   outer = λ slot from below has. absurd (omega arith);
-  left = λ at. and_true (conjunction all at);
+  left = λ at. and-true (conjunction all at);
 }
 
 -- a node above the last one is new
@@ -104,7 +101,7 @@ module _ (all k m : ℕ) (t : List Node) (next : m ≡ k + 1) (old : IsChain all
     leaves = from_next.leaves;
     inner = Adds-as (omega arith) (λ at. refl) from_next.inner;
     outer = λ slot from within some. Adds-as (omega arith) (λ at. refl) (from_next.outer slot (above slot from some) within some);
-    left = λ at. ap (λ c. c && from_next.rest at) (sym (and_true (all_hold all k at))) ∙ held false none at;
+    left = λ at. ap (λ c. c && from_next.rest at) (sym (and-true (all_hold all k at))) ∙ held false none at;
   }
     where
       above : (slot : ℕ) → k ≤ slot → IsTrue (has_slot all slot) → k + 1 ≤ slot

@@ -1,5 +1,6 @@
 -- Conjunctions of several functions, and quantification of one slot of them.
-use Rattle.std.proofs.Common.{◌≡◌, ℕ, ◌+◌, Bool, true, false, cond, ◌&&◌, ◌||◌, List, [], ◌∷◌, ◌++◌, Option, Some, None, refl, sym, ap, subst, ◌∙◌}
+use Rattle.std.proofs.Common.{◌≡◌, ℕ, ◌+◌, Bool, true, false, cond, ◌&&◌, ◌||◌, List, [], ◌∷◌, ◌++◌, Option, Some, None, refl, sym, ap, ◌∙◌}
+use Rattle.std.proofs.Math.Bool.{and-true}
 use Rattle.plai_base.specs.Mask.{has_slot}
 use Rattle.plai_bdd.specs.Assignment.{Assignment, with_slot, IsFree}
 use Rattle.plai_bdd.specs.declared.node.Node.{Node}
@@ -10,16 +11,12 @@ use Rattle.plai_bdd.proofs.Branches.{some_unused}
 use Rattle.plai_bdd.proofs.Functions.{IsFunction-as}
 use Rattle.plai_bdd.proofs.Slots.{left_step, left_all}
 
-and_true : (a : Bool) → (a && true) ≡ a
-and_true true = refl
-and_true false = refl
-
 and_assoc : (a b c : Bool) → (a && (b && c)) ≡ ((a && b) && c)
 and_assoc true b c = refl
 and_assoc false b c = refl
 
 pub together-push : (fs : List (List Node)) (f : List Node) (at : Assignment) → together (fs ++ f ∷ []) at ≡ (together fs at && holds f at)
-together-push [] f at = and_true (holds f at)
+together-push [] f at = and-true (holds f at)
 together-push (g ∷ fs) f at = ap (λ b. holds g at && b) (together-push fs f at) ∙ and_assoc (holds g at) (together fs at) (holds f at)
 
 -- the functions that are left to look at, those that don't depend on the slot, and the others, joined
@@ -86,7 +83,7 @@ module _ (mask slot : ℕ) (given rest : List (List Node)) where
     where
       all : (at : Assignment) → together rest at ≡ together given at
       all at =
-          sym (and_true (together rest at)) ∙ sym (and_true (together rest at && true))
+          sym (and-true (together rest at)) ∙ sym (and-true (together rest at && true))
           ∙ ap (λ fs. (together rest at && true) && together fs at) (sym e) ∙ p.whole at
 
   pub parted_some : (left : List (List Node)) (f one : List Node) (longer : List (List Node)) (b : Bool) → left ≡ [] → b ≡ has_slot mask slot → b ≡ true → longer ≡ rest ++ one ∷ []
@@ -103,7 +100,7 @@ module _ (mask slot : ℕ) (given rest : List (List Node)) where
       side answer =
           let other = with_slot at slot answer in
           ap (λ c. c && holds f other) (sym (p.free at answer))
-          ∙ sym (and_true (together rest other && holds f other))
+          ∙ sym (and-true (together rest other && holds f other))
           ∙ ap (λ fs. (together rest other && holds f other) && together fs other) (sym e) ∙ p.whole other
 
 -- the whole loop

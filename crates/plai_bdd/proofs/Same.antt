@@ -1,5 +1,6 @@
 -- Lists compared, and what a walk to one of two slots says.
-use Rattle.std.proofs.Common.{◌≡◌, ℕ, ◌<◌, Bool, true, false, ◌&&◌, ◌||◌, ◌↔◌, IsTrue, List, [], ◌∷◌, min, max, refl, sym, ap, subst, ◌∙◌, true≢false}
+use Rattle.std.proofs.Common.{◌≡◌, ℕ, ◌<◌, Bool, true, ◌&&◌, ◌||◌, ◌↔◌, IsTrue, List, [], ◌∷◌, min, max, refl, sym, ap, subst, ◌∙◌, true≢false}
+use Rattle.std.proofs.lemmas.Bool.{and_parts}
 use Rattle.std.specs.Cmp.Lexicographic.{pointwise}
 use Rattle.plai_bdd.specs.Assignment.{Assignment}
 use Rattle.plai_bdd.specs.declared.node.Node.{Node}
@@ -10,10 +11,6 @@ use Rattle.plai_bdd.specs.Walk.{Implies, either_nodes, either_root}
 use Rattle.plai_bdd.proofs.Lists.{same_node-true, same_node-same}
 use Rattle.plai_bdd.proofs.Canonical.{same_nodes}
 use Rattle.plai_bdd.proofs.Either.{IsEither, either_is}
-
-both_true : (a b : Bool) → (a && b) ≡ true → (a ≡ true) × (b ≡ true)
-both_true true b h = (refl, h)
-both_true false b h = absurd (true≢false (sym h))
 
 -- the derived comparison of nodes
 abbrev pub node_equal : Node → Node → Bool
@@ -30,7 +27,7 @@ pointwise-true [] [] h = refl
 pointwise-true [] (n ∷ b) h = absurd (true≢false (sym h))
 pointwise-true (m ∷ a) [] h = absurd (true≢false (sym h))
 pointwise-true (m ∷ a) (n ∷ b) h =
-    let p = both_true (node_equal m n) (pointwise node_equal a b) h in
+    let p = and_parts (node_equal m n) (pointwise node_equal a b) h in
     (λ x. same_node-true m n (sym (node_equal-is m n) ∙ p.0) x ∷ pointwise-true a b p.1 x)
 
 pointwise-same : (a : List Node) → pointwise node_equal a a ≡ true

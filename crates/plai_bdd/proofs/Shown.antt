@@ -1,7 +1,7 @@
 -- The lines of a walk: what they have stays shown as pairs are noted.
 use Rattle.std.proofs.Common.{◌≡◌, ◌≢◌, ℕ, zero, suc, ◌/◌, ◌%◌, ◌^◌, ◌<◌, Bool, true, false, cond, nat_eq, ◌&&◌, bit_or, List, length, get_or, set, replicate, refl, sym, ap, subst, ◌∙◌, true≢false, arith, ◌⊎◌, inl, inr, get_or-set_same, get_or-set_other}
 use Rattle.std.specs.Int.{bit_at}
-use Rattle.std.proofs.lemmas.Bool.{eqb-true, eq-eqb}
+use Rattle.std.proofs.lemmas.Bool.{eqb-true, eq-eqb, and_parts}
 use Rattle.std.proofs.lemmas.Nat.Bits.{bit_at_or, bit_at-zero, bit_at-pow_other}
 use Rattle.plai_base.specs.Mask.{has_slot, mask_of}
 use Rattle.plai_bdd.specs.declared.node.Node.{Node}
@@ -9,10 +9,6 @@ use Rattle.plai_bdd.specs.declared.combine.Pair.{Pair}
 use Rattle.plai_bdd.specs.declared.walk.Line.{Line}
 use Rattle.plai_bdd.specs.Nodes.{tree_at}
 use Rattle.plai_bdd.specs.Walk.{Implies, AreShown, no_line, is_line_of, shows, with_pair}
-
-both_true : (a b : Bool) → (a && b) ≡ true → (a ≡ true) × (b ≡ true)
-both_true true b h = (refl, h)
-both_true false b h = absurd (true≢false (sym h))
 
 pub no_slots : (slot : ℕ) → has_slot 0 slot ≡ false
 no_slots slot = ap (λ n. nat_eq n 1) (bit_at-zero slot)
@@ -31,7 +27,7 @@ slot_or mask slot k h = by (same_or_not k slot)
 -- what a line's tests say
 line_is : (line : Line) (pair : Pair) → is_line_of line pair ≡ true → (line.right ≡ pair.right) × (line.block ≡ pair.left / 64)
 line_is line pair h =
-    let p = both_true (nat_eq line.right pair.right) (nat_eq line.block (pair.left / 64)) h in
+    let p = and_parts (nat_eq line.right pair.right) (nat_eq line.block (pair.left / 64)) h in
     (eqb-true line.right pair.right p.0, eqb-true line.block (pair.left / 64) p.1)
 
 line_of_is : (line : Line) (pair : Pair) → line.right ≡ pair.right → line.block ≡ pair.left / 64 → is_line_of line pair ≡ true
@@ -48,7 +44,7 @@ with_pair-shows line pair other h = by (slot_or base (pair.left % 64) (other.lef
     base = cond (is_line_of line pair) line.shown 0
 
     p : (is_line_of (with_pair line pair) other ≡ true) × (has_slot (bit_or base (mask_of (pair.left % 64))) (other.left % 64) ≡ true)
-    p = both_true (is_line_of (with_pair line pair) other) (has_slot (with_pair line pair).shown (other.left % 64)) h
+    p = and_parts (is_line_of (with_pair line pair) other) (has_slot (with_pair line pair).shown (other.left % 64)) h
 
     q : (pair.right ≡ other.right) × (pair.left / 64 ≡ other.left / 64)
     q = line_is (with_pair line pair) other p.0

@@ -1,5 +1,6 @@
 -- What conjunction and quantification over a set of slots say.
 use Rattle.std.proofs.Common.{◌≡◌, ℕ, zero, suc, ◌+◌, ◌<◌, Bool, true, false, cond, not, nat_eq, ◌&&◌, ◌||◌, ◌↔◌, IsTrue, List, refl, sym, ap, subst, ◌∙◌, true≢false, arith, ◌⊎◌, inl, inr, add-one}
+use Rattle.std.proofs.lemmas.Bool.{and_parts, or_cases}
 use Rattle.std.proofs.lemmas.Bool.Decides.{nat_tests}
 use Rattle.std.specs.Bool.{beq}
 use Rattle.plai_base.specs.Mask.{has_slot}
@@ -7,7 +8,6 @@ use Rattle.plai_bdd.specs.Assignment.{Assignment, with_slot, IsFree}
 use Rattle.plai_bdd.specs.Slots.{all_hold, some_hold, some_slot, conjunction, quantified, AllTrue, Somewhere}
 use Rattle.plai_bdd.specs.declared.node.Node.{Node}
 use Rattle.plai_bdd.specs.Nodes.{holds, IsCanonical, IsFunction}
-use Rattle.plai_bdd.proofs.Functions.{IsFunction-as}
 use Rattle.plai_bdd.proofs.Trees.{with_slot_same}
 
 -- the words of specs/Slots.antt, of the slots below a bound
@@ -33,14 +33,6 @@ some_hold-none : (mask : ℕ) (f : Assignment → Bool) (at : Assignment) → so
 unfolding some_hold
 some_hold-none mask f at = refl
 
-both_true : (a b : Bool) → (a && b) ≡ true → (a ≡ true) × (b ≡ true)
-both_true true b h = (refl, h)
-both_true false b h = absurd (true≢false (sym h))
-
-either_true : (a b : Bool) → (a || b) ≡ true → (a ≡ true) ⊎ (b ≡ true)
-either_true true b h = inl refl
-either_true false b h = inr h
-
 last_or : (k n : ℕ) → k < suc n → (k < n) ⊎ (k ≡ n)
 last_or k n h = grind arith
 
@@ -59,7 +51,7 @@ all_hold-Decides mask (suc n) at = down_up (all_hold-Decides mask n at)
   where
     down_up : IsTrue (all_hold mask n at) ↔ ((k : ℕ) → k < n → IsTrue (has_slot mask k) → IsTrue (at k))
         → IsTrue (all_hold mask n at && (not (has_slot mask n) || at n)) ↔ ((k : ℕ) → k < suc n → IsTrue (has_slot mask k) → IsTrue (at k))
-    down_up d = (λ h k lt has. down (both_true (all_hold mask n at) _ h) k has (last_or k n lt), λ all. (λ i. d.1 (λ k lt has. all k (omega arith) has) i && up all (has_slot mask n) refl i))
+    down_up d = (λ h k lt has. down (and_parts (all_hold mask n at) _ h) k has (last_or k n lt), λ all. (λ i. d.1 (λ k lt has. all k (omega arith) has) i && up all (has_slot mask n) refl i))
       where
         down : (all_hold mask n at ≡ true) × ((not (has_slot mask n) || at n) ≡ true) → (k : ℕ) → IsTrue (has_slot mask k) → (k < n) ⊎ (k ≡ n) → IsTrue (at k)
         down p k has (inl lt) = d.0 p.0 k lt has
@@ -148,7 +140,7 @@ module _ (mask n : ℕ) (f : Assignment → Bool) (at : Assignment) where
       any e (inr h) = one true e h
 
       by : (b : Bool) → has_slot mask n ≡ b → SomewhereBelow mask (suc n) f at
-      by true e = any e (either_true _ _ (sym (some_with e s.0) ∙ s.1.1))
+      by true e = any e (or_cases _ _ (sym (some_with e s.0) ∙ s.1.1))
       by false e = (s.0, (more_without mask n s.0 at s.1.0, sym (some_without e s.0) ∙ s.1.1))
 
   less : SomewhereBelow mask (suc n) f at → SomewhereBelow mask n (some_slot mask n f) at

@@ -1,5 +1,7 @@
 -- The steps of combining two places: leaves, a slot that is placed, a slot that is fixed, and what is noted.
-use Rattle.std.proofs.Common.{true≢false, Result, Ok, Err, IfOk, OnOk, ◌≡◌, ◌≢◌, ℕ, ◌+◌, ◌<◌, ◌≤◌, Bool, true, false, cond, nat_eq, min, ◌&&◌, ◌||◌, List, get_or, refl, sym, ap, subst, ◌∙◌, arith, ◌⊎◌, inl, inr, Some}
+use Rattle.std.proofs.Common.{true≢false, Result, Ok, Err, IfOk, OnOk, ◌≡◌, ◌≢◌, ℕ, ◌+◌, ◌<◌, ◌≤◌, Bool, true, false, cond, nat_eq, min, ◌||◌, List, get_or, refl, sym, ap, subst, ◌∙◌, arith, ◌⊎◌, inl, inr, Some}
+use Rattle.std.proofs.lemmas.Bool.{and_parts, or_cases}
+use Rattle.std.proofs.Math.Bool.{and-false, or-true}
 use Rattle.std.proofs.lemmas.Bool.Decides.{nat_tests}
 use Rattle.indexmap.specs.IndexMap.{IndexMap, get, Updates}
 use Rattle.plai_bdd.specs.Assignment.{Assignment}
@@ -25,14 +27,6 @@ answers_split c false x y z w = refl
 least_is : (m n : ℕ) → (min m n ≡ m) ⊎ (min m n ≡ n)
 least_is m n = grind arith
 
-and_false : (x : Bool) → (x && false) ≡ false
-and_false true = refl
-and_false false = refl
-
-or_true : (x : Bool) → (x || true) ≡ true
-or_true true = refl
-or_true false = refl
-
 -- an answer that decides the connective's, on the left and on the right
 absorbed_left : (c : Connective) (x y z : Bool) → absorbs c x ≡ true → answer_of c x y ≡ answer_of c x z
 absorbed_left And true y z h = absurd (true≢false (sym h))
@@ -43,8 +37,8 @@ absorbed_left Iff x y z h = absurd (true≢false (sym h))
 
 absorbed_right : (c : Connective) (x y z : Bool) → absorbs c z ≡ true → answer_of c x z ≡ answer_of c y z
 absorbed_right And x y true h = absurd (true≢false (sym h))
-absorbed_right And x y false h = and_false x ∙ sym (and_false y)
-absorbed_right Or x y true h = or_true x ∙ sym (or_true y)
+absorbed_right And x y false h = and-false x ∙ sym (and-false y)
+absorbed_right Or x y true h = or-true x ∙ sym (or-true y)
 absorbed_right Or x y false h = absurd (true≢false (sym h))
 absorbed_right Iff x y z h = absurd (true≢false (sym h))
 
@@ -58,10 +52,6 @@ decides_right : (c : Connective) (a b : Node) (u v : Bool) → is_absorbing c b 
     → answer_of c (leaf_answer a) (leaf_answer b) ≡ answer_of c u v
 decides_right c a (Leaf y) u v h is = absorbed_right c (leaf_answer a) u y h ∙ ap (λ z. answer_of c u z) (sym (is (omega arith)))
 decides_right c a (Branch s i j) u v h is = absurd (true≢false (sym h))
-
-either_true : (a b : Bool) → (a || b) ≡ true → (a ≡ true) ⊎ (b ≡ true)
-either_true true b h = inl refl
-either_true false b h = inr h
 
 module _ (connective : Connective) (change : Change) (left right : List Node) (i j : ℕ) (a b : Node)
     (left_is : IsSource change left i) (right_is : IsSource change right j) (a_is : get_or left i no_node ≡ a) (b_is : get_or right j no_node ≡ b) where
@@ -89,7 +79,7 @@ module _ (connective : Connective) (change : Change) (left right : List Node) (i
   pub decided : (t : List Node) (node : Node) (r : Bool) → IsTable t → r ≡ (is_absorbing connective a || is_absorbing connective b) → r ≡ true
       → node ≡ Leaf (answer_of connective (leaf_answer a) (leaf_answer b))
       → Adds t (place_of node t) (put node t) (least_of change left right i j) (function_of connective change left right i j)
-  decided t node r ok r_is holds is = answered t node ok is (λ at. by at (either_true _ _ (sym r_is ∙ holds)))
+  decided t node r ok r_is holds is = answered t node ok is (λ at. by at (or_cases _ _ (sym r_is ∙ holds)))
     where
       by : (at : Assignment) → (is_absorbing connective a ≡ true) ⊎ (is_absorbing connective b ≡ true)
           → answer_of connective (leaf_answer a) (leaf_answer b) ≡ function_of connective change left right i j at
@@ -204,16 +194,12 @@ pub memo_grown : {S : Type 0} (connective : Connective) (change : Change) (left 
     → IsGrown t u → IsMemo connective change left right memo t → IsMemo connective change left right memo u
 memo_grown connective change left right memo t u g m = record { noted = λ pair place e. Answers-grown g (m.noted pair place e) }
 
-both_true : (a b : Bool) → (a && b) ≡ true → (a ≡ true) × (b ≡ true)
-both_true true b h = (refl, h)
-both_true false b h = absurd (true≢false (sym h))
-
 number_is : (a b : ℕ) → nat_eq a b ≡ true → a ≡ b
 number_is a b h = grind (arith, nat_tests)
 
 pair_is : (a b : Pair) → same_pair a b ≡ true → a ≡ b
 pair_is a b h =
-    let p = both_true (nat_eq a.left b.left) (nat_eq a.right b.right) h in
+    let p = and_parts (nat_eq a.left b.left) (nat_eq a.right b.right) h in
     (λ x. record { left = number_is a.left b.left p.0 x; right = number_is a.right b.right p.1 x })
 
 some_is : (a b : ℕ) → Some a ≡ Some b → a ≡ b

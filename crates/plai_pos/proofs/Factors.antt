@@ -1,5 +1,6 @@
 -- Functions that are true together, as a state's factors are.
 use Rattle.std.proofs.Common.{◌≡◌, ℕ, ◌^◌, ◌<◌, Bool, true, false, ◌&&◌, List, [], ◌∷◌, ◌++◌, filter, refl, sym, ap, ◌∙◌}
+use Rattle.std.proofs.Math.Bool.{and-true}
 use Rattle.std.proofs.lemmas.Bool.{and_from}
 use Rattle.plai_base.specs.Mask.{all_true, has_slot}
 use Rattle.plai_base.specs.Sets.{has, kept, IsSet}
@@ -10,10 +11,6 @@ use Rattle.plai_bdd.specs.Nodes.{holds}
 use Rattle.plai_bdd.specs.Product.{together}
 use Rattle.plai_bdd.proofs.Products.{together-push}
 use Rattle.plai_pos.specs.Values.{models_in, models_of, IsPositiveBelow}
-
-and_true : (a : Bool) → (a && true) ≡ a
-and_true true = refl
-and_true false = refl
 
 module _ (v : ℕ) (fs : List (List Node)) (f : List Node) (longer : List (List Node)) (pushed : longer ≡ fs ++ f ∷ []) where
   at_longer : (at : Assignment) → together longer at ≡ (together fs at && holds f at)
@@ -33,7 +30,7 @@ module _ (v : ℕ) (fs : List (List Node)) (f : List Node) (longer : List (List 
 -- one function
 module _ (v : ℕ) (f : List Node) (fs : List (List Node)) (alone : fs ≡ f ∷ []) where
   pub at_alone : (at : Assignment) → together fs at ≡ holds f at
-  at_alone at = ap (λ gs. together gs at) alone ∙ and_true (holds f at)
+  at_alone at = ap (λ gs. together gs at) alone ∙ and-true (holds f at)
 
   pub positive_alone : IsPositiveBelow v (holds f) → IsPositiveBelow v (together fs)
   positive_alone p = record {

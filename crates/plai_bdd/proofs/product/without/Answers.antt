@@ -1,10 +1,10 @@
-use Rattle.std.proofs.Common.{◌≡◌, [], ◌∷◌, ◌++◌, List, Some, None, sym, ap, subst, arith}
+use Rattle.std.proofs.Common.{◌≡◌, [], List, Some, None, sym, ap, subst, arith}
 use Rattle.std.proofs.lemmas.Grind.{common_steps}
 use Rattle.plai_bdd.specs.declared.node.Node.{Node}
 use Rattle.plai_bdd.specs.Assignment.{Assignment}
 use Rattle.plai_bdd.specs.Slots.{some_slot}
 use Rattle.plai_bdd.specs.Product.{together}
-use Rattle.plai_bdd.proofs.Products.{IsParting, parting_start, parting_rest, parting_joined, parted_none, parted_some}
+use Rattle.plai_bdd.proofs.Products.{IsParting, parting_rest, parting_joined, parted_none, parted_some}
 use Rattle.plai_bdd.proofs.product.without.Goals as goal
 use Rattle.plai_bdd.proofs.product.without.Goals.{in-Some-joined+in_ok-exists_one+in_ok-push-2, in_default-joined}
 
