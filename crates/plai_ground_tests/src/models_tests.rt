@@ -318,12 +318,25 @@ fn check_place<R: AllocGlobal + Abort, L: Ledger>(
 
 /// One of the values of so many arguments, or none where there is none.
 fn pick<'a>(values: &'a [Known], numbers: &mut Numbers, arity: u32) -> Option<&'a Known> {
-    if values.is_empty() {
+    let count = values.iter().filter(|known| known.arity == arity).count();
+    if count == 0 {
         return None;
     }
-    let start = numbers.index(values.len());
-    let mut found = values[start..].iter().chain(&values[..start]);
-    found.find(|known| known.arity == arity)
+    let place = numbers.index(count);
+    values
+        .iter()
+        .filter(|known| known.arity == arity)
+        .nth(place)
+}
+
+/// Puts the value behind the others, unless it is one of them.
+fn add(values: &mut Vec<Known>, value: Known) -> Result<(), Fail> {
+    let known = values.iter().any(|known| known.arity == value.arity
+        && known.models == value.models);
+    if !known {
+        values.push(value)?;
+    }
+    Ok(())
 }
 
 /// Compares a literal's call, the place behind its answer and the places behind actions, and gives one of those places or
@@ -356,8 +369,8 @@ fn check_literal<R: AllocGlobal + Abort, L: Ledger>(
     Ok(next)
 }
 
-/// Compares a clause of up to three literals: its answer joins the values, if there is one, as does what it and an earlier
-/// value give together.
+/// Compares a clause of up to three literals. Its answer, if there is one, is put among the values, and so is what it and one
+/// of them give together.
 fn check_clause<R: AllocGlobal + Abort, L: Ledger>(
     rt: &R,
     values: &mut Vec<Known>,
@@ -386,9 +399,8 @@ fn check_clause<R: AllocGlobal + Abort, L: Ledger>(
     check_order(rt, &both, earlier);
     check_properties(rt, &answer)?;
     check_properties(rt, &both)?;
-    values.push(answer)?;
-    values.push(both)?;
-    Ok(())
+    add(values, answer)?;
+    add(values, both)
 }
 
 /// Compares so many clauses, in which what the earlier ones answered is called and answered.
