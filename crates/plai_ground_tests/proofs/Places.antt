@@ -1,12 +1,11 @@
 -- A state of groundness is one of a clause of as many arguments and variables as it says.
-use Rattle.std.proofs.Common.{◌≡◌, ℕ, ◌+◌, ◌/◌, ◌%◌, ◌^◌, true, Bool, ◌&&◌, nat_eq, List, refl, sym, ap, ◌∙◌}
+use Rattle.std.proofs.Common.{◌≡◌, ℕ, ◌+◌, ◌/◌, ◌%◌, ◌^◌, true, ◌&&◌, nat_eq, refl, sym, ap, ◌∙◌}
 use Rattle.std.proofs.lemmas.Bool.{eq-eqb, and_from}
 use Rattle.plai_base.specs.Mask.{all_true, has_slot}
 use Rattle.plai_base.specs.Sets.{has}
 use Rattle.plai_base.proofs.Sets.{kept_has}
 use Rattle.plai_base.proofs.Bits.{top_lt, top_mod, top_div}
 use Rattle.plai_domain.specs.Conditions.{IsState, IsValue}
-use Rattle.plai_terms.specs.declared.abs.Abs.{Abs}
 use Rattle.plai_assignments.specs.Groundness.{groundness, arity_of}
 use Rattle.plai_assignments.proofs.Laws.{value_of_positive}
 use Rattle.plai_assignments.proofs.Parts.{value_kept}
