@@ -37,29 +37,36 @@ struct Reached {
 }
 
 /// Whether each variable of the terms is numbered below the limit.
-fn are_below(limit: u32, terms: &[Term]) -> bool
-    ensures { result ≡ all_below limit terms.now }
+fn are_below(_alloc: Global, limit: u32, terms: &[Term]) -> Result<bool, AllocError>
+    ensures { IfOk result (λ below. below ≡ all_below limit terms.now) }
 {
     for term in terms {
         if !term.has_variables_below(limit) {
-            return false;
+            return Ok(false);
         }
     }
-    true
+    Ok(true)
 }
 
 /// Whether the terms may be the head of a clause of so many arguments and variables.
-fn is_head(arity: u32, variables: u32, head: &[Term]) -> bool
-    ensures { IsTrue result → IsHead arity variables head.now }
+fn is_head(alloc: Global, arity: u32, variables: u32, head: &[Term]) -> Result<bool, AllocError>
+    ensures { IfOk result (λ is. IsTrue is → IsHead arity variables head.now) }
 {
-    arity <= 16 && variables <= 48 && head.len() == arity as usize && are_below(variables, head)
+    let below = are_below(alloc, variables, head)?;
+    Ok(arity <= 16 && variables <= 48 && head.len() == arity as usize && below)
 }
 
 /// Whether the terms may be the arguments of a literal of such a clause.
-fn are_arguments(arity: u32, variables: u32, args: &[Term]) -> bool
-    ensures { IsTrue result → AreArguments arity variables args.now }
+fn are_arguments(
+    alloc: Global,
+    arity: u32,
+    variables: u32,
+    args: &[Term],
+) -> Result<bool, AllocError>
+    ensures { IfOk result (λ are. IsTrue are → AreArguments arity variables args.now) }
 {
-    arity <= 16 && variables <= 32 && args.len() <= 16 && are_below(variables, args)
+    let below = are_below(alloc, variables, args)?;
+    Ok(arity <= 16 && variables <= 32 && args.len() <= 16 && below)
 }
 
 /// Whether the property is of so many arguments.
@@ -159,7 +166,8 @@ fn enter<R: AllocGlobal + Abort, L: Ledger>(
     variables: u32,
     steps: &mut Steps<L>,
 ) -> Result<Reached, Fail> {
-    assert!(rt; is_head(call.arity, variables, head));
+    let is_head = is_head(rt.alloc(), call.arity, variables, head)?;
+    assert!(rt; is_head);
     assert!(rt; head.len() == call.arity as usize && call.arity < 32 && variables < 32);
     let alloc = rt.alloc();
     let entered = Ground::new().enter(alloc, &call.value, head, variables, steps)?;
@@ -178,7 +186,8 @@ fn call<R: AllocGlobal + Abort, L: Ledger>(
     args: &[Term],
     steps: &mut Steps<L>,
 ) -> Result<Known, Fail> {
-    assert!(rt; are_arguments(at.plain.arity, at.variables, args));
+    let are_arguments = are_arguments(rt.alloc(), at.plain.arity, at.variables, args)?;
+    assert!(rt; are_arguments);
     let alloc = rt.alloc();
     let value = Ground::new().call(alloc, &at.state, args, steps)?;
     compared(rt, args.len() as u32, value, at.plain.call(alloc, args)?)
@@ -192,7 +201,8 @@ fn back<R: AllocGlobal + Abort, L: Ledger>(
     answer: &Known,
     steps: &mut Steps<L>,
 ) -> Result<Reached, Fail> {
-    assert!(rt; are_arguments(at.plain.arity, at.variables, args));
+    let are_arguments = are_arguments(rt.alloc(), at.plain.arity, at.variables, args)?;
+    assert!(rt; are_arguments);
     assert!(rt; args.len() == answer.arity as usize);
     let alloc = rt.alloc();
     let next = Ground::new().back(alloc, &at.state, args, &answer.value, steps)?;
@@ -212,7 +222,8 @@ fn refine<R: AllocGlobal + Abort, L: Ledger>(
     action: &Action,
     steps: &mut Steps<L>,
 ) -> Result<Option<Reached>, Fail> {
-    assert!(rt; are_arguments(at.plain.arity, at.variables, args));
+    let are_arguments = are_arguments(rt.alloc(), at.plain.arity, at.variables, args)?;
+    assert!(rt; are_arguments);
     assert!(rt; acts_within(args.len(), action));
     let alloc = rt.alloc();
     let next = Ground::new().refine(alloc, &at.state, args, action, steps)?;
@@ -235,7 +246,8 @@ fn exit<R: AllocGlobal + Abort, L: Ledger>(
     head: &[Term],
     steps: &mut Steps<L>,
 ) -> Result<Known, Fail> {
-    assert!(rt; is_head(at.plain.arity, at.variables, head));
+    let is_head = is_head(rt.alloc(), at.plain.arity, at.variables, head)?;
+    assert!(rt; is_head);
     let alloc = rt.alloc();
     let value = Ground::new().exit(alloc, &at.state, head, steps)?;
     compared(rt, at.plain.arity, value, at.plain.exit(alloc)?)
