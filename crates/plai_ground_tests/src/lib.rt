@@ -2,4 +2,10 @@
 #![tactic(auto)]
 
 #[cfg(test)]
+mod generated;
+#[cfg(test)]
+mod models;
+#[cfg(test)]
+mod models_tests;
+#[cfg(test)]
 mod tests;
