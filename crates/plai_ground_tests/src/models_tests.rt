@@ -37,11 +37,11 @@ struct Reached {
 }
 
 /// Whether each variable of the terms is numbered below the limit.
-fn are_below(_alloc: Global, limit: u32, terms: &[Term]) -> Result<bool, AllocError>
+fn are_below(alloc: Global, limit: u32, terms: &[Term]) -> Result<bool, AllocError>
     ensures { IfOk result (λ below. below ≡ all_below limit terms.now) }
 {
     for term in terms {
-        if !term.has_variables_below(limit) {
+        if !term.has_variables_below(alloc, limit)? {
             return Ok(false);
         }
     }
