@@ -2,8 +2,11 @@
 # Measures how long an analysis takes from scratch: chains of predicates that shuffle their arguments (4, 8 and 12 of them, in
 # clauses of 12, 32 and 60 slots at the sizes 1, 2 and 3), programs over lists, arithmetic with comparisons, and clauses that copy
 # compounds of 8, 15 and 22 variables argument by argument, or put 5, 10 and 15 arguments into one compound, whose variables stand
-# far apart. The words are the sizes, 1 2 3 where there are none, so that growth shows; a larger size has more predicates. Prints
-# the number of rows and the time.
+# far apart. Then clauses whose variables hang together in ways that a fixed order of quantification is slow on: 8, 16 and 24 triples
+# that share one variable, which is the clause's first, one in the middle or its last; 6, 12 and 18 triples that share two; a grid of
+# 2 by 2, 4 by 4 and 6 by 6 variables. And bodies of 4,096, 8,192 and 12,288 literals: of one variable, of 40 variables, of pairs of
+# these that are unified, and of triples of these. The words are the sizes, 1 2 3 where there are none, so that growth shows; a
+# larger size has more predicates. Prints the number of rows, the time, and how many times it grew from the size before.
 set -eu
 here=$(cd "$(dirname "$0")/.." && pwd)
 folder=$(mktemp -d)
@@ -98,7 +101,68 @@ def records(size):
     yield "same(X, X)."
 
 
+TRIPLE = "e(f(A, B), A, B)."
+
+
+def hub(place):
+    """Triples that share one variable, which comes first, in the middle or last among the clause's."""
+    def shape(size):
+        left, right = ([f"{letter}{i}" for i in range(8 * size)] for letter in "XY")
+        arguments = [f"r({', '.join(left)})", f"s({', '.join(right)})"]
+        arguments.insert(place, "C")
+        yield ":- entry p(A, B, C)."
+        yield TRIPLE
+        yield f"p({', '.join(arguments)}) :- {', '.join(f'e(C, {a}, {b})' for a, b in zip(left, right))}."
+    return shape
+
+
+def hubs(size):
+    """Triples that share one of two variables, each over the same pairs."""
+    left, right = ([f"{letter}{i}" for i in range(6 * size)] for letter in "XY")
+    yield ":- entry p(A, B, C, D)."
+    yield TRIPLE
+    goals = ", ".join(f"e(C, {a}, {b}), e(D, {a}, {b})" for a, b in zip(left, right))
+    yield f"p(r({', '.join(left)}), s({', '.join(right)}), C, D) :- {goals}."
+
+
+def grid(size):
+    """Each variable of a grid is made of those above it and to its left."""
+    side = range(2 * size)
+    goals = ", ".join(f"e(V{i}_{j}, V{i - 1}_{j}, V{i}_{j - 1})" for i in side[1:] for j in side[1:])
+    yield ":- entry p(A, B)."
+    yield TRIPLE
+    yield f"p(V0_0, V{2 * size - 1}_{2 * size - 1}) :- {goals}."
+
+
+def conjunction(goals):
+    """The goals in order, as a tree of conjunctions that is not deep."""
+    while len(goals) > 1:
+        pairs = zip(goals[::2], goals[1::2])
+        goals = [f"({first}, {second})" for first, second in pairs] + goals[len(goals) // 2 * 2:]
+    return goals[0]
+
+
+def body(fact, goal, variables):
+    """A long body of goals with variables that are chosen at random."""
+    def shape(size):
+        choose = random.Random(size)
+        goals = [goal.format(*(f"X{choose.randrange(variables)}" for _ in range(3))) for _ in range(4096 * size)]
+        yield ":- entry p(A)."
+        yield fact
+        yield f"p(X0) :- {conjunction(goals)}."
+    return shape
+
+
 shapes = {
+    "hub_first": hub(0),
+    "hub_middle": hub(1),
+    "hub_last": hub(2),
+    "two_hubs": hubs,
+    "grid": grid,
+    "body": body("q(_).", "q({0})", 1),
+    "body_facts": body("q(a).", "q({0})", 40),
+    "body_pairs": body("q(X, X).", "q({0}, {1})", 40),
+    "body_triples": body("q(f(A, B), A, B).", "q({0}, {1}, {2})", 40),
     "chain": chain,
     "records": records,
     "lists": lambda size: repeated(LISTS, 10 * size * size),
@@ -111,14 +175,18 @@ for name, shape in shapes.items():
 PYTHON
 
 "$here/plai" "$here/examples/app.pl" < /dev/null > "$folder/out"
-for name in chain records lists arithmetic; do
+for name in chain records lists arithmetic hub_first hub_middle hub_last two_hubs grid body body_facts body_pairs body_triples; do
+  last=0
   for size in "$@"; do
     file=$folder/${name}_$size.pl
     before=$(date +%s%N)
     status=0
-    "$here/plai" "$file" < /dev/null > "$folder/out" || status=$?
-    after=$(date +%s%N)
+    timeout 120 "$here/plai" "$file" < /dev/null > "$folder/out" || status=$?
+    time=$((($(date +%s%N) - before) / 1000000))
     rows=$(grep -c '^row ' "$folder/out" || true)
-    echo "$name $size: status $status, $(wc -l < "$file") lines, $rows rows, $(stat -c %s "$folder/out") bytes, $(((after - before) / 1000000)) ms"
+    growth=
+    [ "$last" -eq 0 ] || growth=", $((time * 10 / last / 10)).$((time * 10 / last % 10)) times"
+    echo "$name $size: status $status, $(wc -l < "$file") lines, $rows rows, $(stat -c %s "$folder/out") bytes, $time ms$growth"
+    last=$time
   done
 done

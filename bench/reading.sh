@@ -1,43 +1,80 @@
 #!/usr/bin/env bash
-# Measures how fast plai reads: files of facts, of lists nested to the limit, of round brackets, and of operators, each at two
-# sizes, so that growth shows. No entry stands in them, so that reading and loading is all the work. Prints bytes per second.
+# Measures how fast plai reads and loads, and how much memory that takes: files of facts, of strings, of lists nested to the
+# limit, of round brackets, of operators, of facts of different predicates, of entries, and several files that import from
+# one another, each at two sizes, so that growth shows. Only the entries are analysed, and no clause belongs to them, so that
+# reading and loading is nearly all the work. Prints milliseconds, bytes per second, and bytes of memory per byte of text.
 set -eu
 here=$(cd "$(dirname "$0")/.." && pwd)
 folder=$(mktemp -d)
 trap 'rm -rf "$folder"' EXIT
 
 python3 - "$folder" <<'PYTHON'
-import sys
+import os, sys
 
 folder = sys.argv[1]
+head = ":- module(m, [])."
+
+
+def write(shape, size, files):
+    os.makedirs(f"{folder}/{shape}/{size}")
+    for name, lines in files.items():
+        with open(f"{folder}/{shape}/{size}/{name}.pl", "w") as out:
+            out.write("\n".join(lines) + "\n")
+
+
+# files of a number of bytes
 shapes = {
-    "facts": (60, lambda i: f"edge(node_{i:06d}, [a, B{i}|Rest], f(X, \"ab\", Rest), {i})."),
-    "lists": (1900, lambda i: "l(" + "[" * 1900 + "]" * 1900 + ")."),
-    "brackets": (100000, lambda i: "b(" + "(" * 100000 + "a" + ")" * 100000 + ")."),
-    "operators": (1500, lambda i: "o(X) :- " + ", ".join("p(X)" for _ in range(300)) + "."),
+    "facts": lambda i: f"edge(node_{i:06d}, [a, B{i}|Rest], f(X, \"ab\", Rest), {i}).",
+    "strings": lambda i: "s(\"" + "x" * 1900 + "\").",
+    "lists": lambda i: "l(" + "[" * 1900 + "]" * 1900 + ").",
+    "brackets": lambda i: "b(" + "(" * 100000 + "a" + ")" * 100000 + ").",
+    "operators": lambda i: "o(X) :- " + ", ".join("p(X)" for _ in range(300)) + ".",
 }
-for name, (_, line) in shapes.items():
+for shape, line in shapes.items():
     for size in (1_000_000, 4_000_000):
-        text, length, i = [":- module(m, [])."], 20, 0
+        lines, length, i = [head], 20, 0
         while True:
             item = line(i)
             if length + len(item) + 1 > size or i >= 65_000:
                 break
-            text.append(item)
+            lines.append(item)
             length += len(item) + 1
             i += 1
-        with open(f"{folder}/{name}_{size}.pl", "w") as out:
-            out.write("\n".join(text) + "\n")
+        write(shape, size, {"a": lines})
+
+# files of a number of items
+for size in (16_000, 64_000):
+    write("predicates", size, {"a": [head] + [f"p{i}(a)." for i in range(size)]})
+    write("entries", size, {"a": [head] + [f":- entry p(X) : ground(X)." for _ in range(size)]})
+
+# a file that imports all that 10 or 40 others export, 1,990 predicates each, with as many facts as fit
+for count in (10, 40):
+    files = {"a": [head] + [f":- use_module(x{i})." for i in range(count)] + [f"f{i}(a)." for i in range(1500 * count)]}
+    for i in range(count):
+        files[f"x{i:02d}"] = [f":- module(x{i}, [" + ",".join(f"q{i}_{k}/1" for k in range(1990)) + "])."]
+    write("imports", count, files)
 PYTHON
 
-for name in facts lists brackets operators; do
-  for size in 1000000 4000000; do
-    file=$folder/${name}_$size.pl
-    before=$(date +%s%N)
-    status=0
-    "$here/plai" "$file" < /dev/null > "$folder/out" || status=$?
-    after=$(date +%s%N)
-    bytes=$(stat -c %s "$file")
-    echo "$name $bytes bytes: status $status, $(((after - before) / 1000000)) ms, $((bytes * 1000000000 / (after - before))) bytes per second"
+for shape in facts strings lists brackets operators predicates entries imports; do
+  for size in $(ls "$folder/$shape" | sort -n); do
+    bytes=$(cat "$folder/$shape/$size"/*.pl | wc -c)
+    read -r status ms peak <<< "$(python3 - "$here/plai" "$folder/$shape/$size"/*.pl <<'PYTHON'
+import subprocess, sys, time
+
+# the greatest size of the program's memory, read while it runs, since the one that the system counts has this script's in it
+with subprocess.Popen(sys.argv[1:], stdin=subprocess.DEVNULL, stdout=subprocess.DEVNULL) as program:
+    before, peak = time.monotonic(), 0
+    while program.poll() is None:
+        try:
+            for line in open(f"/proc/{program.pid}/status"):
+                if line.startswith("VmHWM"):
+                    peak = int(line.split()[1]) * 1024
+        except (FileNotFoundError, ProcessLookupError):
+            pass
+        time.sleep(0.001)
+    print(program.returncode, round((time.monotonic() - before) * 1000), peak)
+PYTHON
+)"
+    echo "$shape $size: $bytes bytes, status $status, $ms ms, $((bytes * 1000 / (ms + 1))) bytes per second, $((peak / bytes)) bytes of memory per byte"
   done
 done

@@ -1,27 +1,46 @@
 #!/usr/bin/env bash
-# Runs plai on each example and compares what it prints with the table beside it. The gate does the same with the copies in
-# crates/plai_examples/data, which are compared here with these.
+# Runs plai on each example and compares what it prints and its status with what stands here and beside the example. The
+# gate does the same with the copies in crates/plai_examples/data, which are compared here with these. It fails too where
+# docs/DEFINITIONS.md is not what docs/definitions.sh makes, or a link of the documents leads nowhere.
 set -u
 cd "$(dirname "${BASH_SOURCE[0]}")" || exit 1
 failed=0
+
+# what is printed, the status, and the words
 check() {
-  local table=$1
-  shift
-  if ../plai "$@" < /dev/null | cmp -s - "$table"; then
-    echo "ok $table"
-  else
+  local table=$1 wanted=$2 status
+  shift 2
+  ../plai "$@" < /dev/null | cmp -s - "$table"
+  status=("${PIPESTATUS[@]}")
+  if [ "${status[0]}" -ne "$wanted" ]; then
+    echo "status ${status[0]}, not $wanted: $table"
+    failed=1
+  elif [ "${status[1]}" -ne 0 ]; then
     echo "differs: $table"
     failed=1
+  else
+    echo "ok $table"
   fi
 }
-check app.table app.pl
-check deriv.table deriv.pl
-check len.table len.pl
-check sort.table sort.pl lists.pl
+
+check app.table 0 app.pl
+check deriv.table 0 deriv.pl
+check fact.table 0 fact.pl
+check len.table 0 len.pl
+check never.table 0 never.pl
+check sort.table 0 sort.pl lists.pl
+check rows.table 1 --rows 2 sort.pl lists.pl
+check findall.table 3 findall.pl
+
 for file in *.pl *.table; do
   if ! cmp -s "$file" "../crates/plai_examples/data/$file"; then
     echo "another copy: $file"
     failed=1
   fi
 done
+if ! ../docs/definitions.sh | cmp -s - ../docs/DEFINITIONS.md; then
+  echo "docs/DEFINITIONS.md has drifted: make it anew with docs/definitions.sh > docs/DEFINITIONS.md"
+  failed=1
+fi
+../docs/links.sh || failed=1
 exit $failed

@@ -1,5 +1,5 @@
 //! What the analyser asks of the outside: a library of files, a source of bytes and a sink of bytes. And what
-//! all its layers count with: sets of slots, and the number of steps taken.
+//! all its layers use: texts, sets of slots, and the number of steps taken.
 #![tactic(auto)]
 
 mod adapters;
@@ -8,8 +8,7 @@ mod memory_library;
 mod memory_streams;
 mod outside;
 mod steps;
-#[cfg(test)]
-mod tests;
+mod text;
 mod whole;
 
 pub use adapters::{FileLibrary, InputSource, OutputSink};
@@ -18,4 +17,5 @@ pub use memory_library::{HonestLibrary, MemoryLibrary};
 pub use memory_streams::{MemorySink, MemorySource};
 pub use outside::{Failed, Library, MAX_TEXT, ReadFail, Sink, Source};
 pub use steps::Steps;
+pub use text::Text;
 pub use whole::{read_whole, write_whole};

@@ -8,8 +8,8 @@ pub mod Either
 pub mod Functions
 pub mod Lists
 pub mod Models
-pub mod Products
 pub mod Same
+pub mod Sets
 pub mod Shown
 pub mod Slots
 pub mod Splits

@@ -64,7 +64,7 @@ all_hold-Decides mask (suc n) at = down_up (all_hold-Decides mask n at)
 not_last : (k n : ℕ) → k < suc n → nat_eq k n ≡ false → k < n
 not_last k n h e = grind (arith, nat_tests)
 
-or_right : (a b : Bool) → b ≡ true → (a || b) ≡ true
+pub or_right : (a b : Bool) → b ≡ true → (a || b) ≡ true
 or_right true b e = refl
 or_right false b e = e
 
@@ -114,7 +114,7 @@ module _ (mask n : ℕ) (other at : Assignment) where
       by (inr p) (inr apart) = inr (not_last k n p.0 apart, p.1)
 
 -- a slot that was replaced is put back
-put_back : (other : Assignment) (n : ℕ) (v : Bool) (k : ℕ) → with_slot (with_slot other n v) n (other n) k ≡ other k
+pub put_back : (other : Assignment) (n : ℕ) (v : Bool) (k : ℕ) → with_slot (with_slot other n v) n (other n) k ≡ other k
 put_back other n v k = by (here_or k n)
   where
     by : (k ≡ n) ⊎ (nat_eq k n ≡ false) → with_slot (with_slot other n v) n (other n) k ≡ other k
@@ -160,7 +160,7 @@ module _ (mask n : ℕ) (f : Assignment → Bool) (at : Assignment) where
       by false e = (s.0, (less_without mask n s.0 at e s.1.0, some_without e s.0 ∙ s.1.1))
 
 -- SOME: the function is true at an assignment that differs only within the set
-some_hold-Decides : (mask n : ℕ) (f : Assignment → Bool) (at : Assignment) → IsTrue (some_hold mask n f at) ↔ SomewhereBelow mask n f at
+pub some_hold-Decides : (mask n : ℕ) (f : Assignment → Bool) (at : Assignment) → IsTrue (some_hold mask n f at) ↔ SomewhereBelow mask n f at
 unfolding some_hold
 some_hold-Decides mask zero f at =
     (λ h. (at, (λ k. inl refl, h)), λ s. let e : s.0 ≡ at = (λ i k. same_at mask s.0 at s.1.0 k i) in ap f (sym e) ∙ s.1.1)
@@ -223,7 +223,7 @@ differ_back mask n x y d k = by (d k)
     by (inl p) = inl (sym p)
     by (inr p) = inr p
 
-same_truth : (a b : Bool) → (a ≡ true → b ≡ true) → (b ≡ true → a ≡ true) → a ≡ b
+pub same_truth : (a b : Bool) → (a ≡ true → b ≡ true) → (b ≡ true → a ≡ true) → a ≡ b
 same_truth true b f g = sym (f refl)
 same_truth false true f g = g refl
 same_truth false false f g = refl

@@ -2,7 +2,6 @@ pub mod Assignment
 pub mod Chain
 pub mod Change
 pub mod Nodes
-pub mod Product
 pub mod Props
 pub mod Slots
 pub mod Table

@@ -1,19 +1,20 @@
-ghost use Rattle.std.specs.Prelude.{◌≡◌, ◌<◌, ◌≤◌, ◌+◌, ◌-◌, ◌^◌, ◌&&◌, ◌||◌, ◌↔◌, ◌++◌, ℕ, false, true, IsTrue, IfOk, OnOk, OnErr, length};
+ghost use Rattle.std.specs.Prelude.{◌≡◌, ◌<◌, ◌≤◌, ◌+◌, ◌-◌, ◌^◌, ◌&&◌, ◌||◌, ◌↔◌, ◌++◌, ℕ, false, true, nat_eq, IsTrue, IfOk, OnOk, OnErr, length};
 ghost use Rattle.std.specs.Bool.{beq};
 ghost use Rattle.plai_base.specs.Mask.{has_slot};
 ghost use Rattle.plai_bdd.specs.Assignment.{Assignment, IsFree, with_slot};
 ghost use Rattle.plai_bdd.specs.Change.{IsPlaceable, combined};
 ghost use Rattle.plai_bdd.specs.Nodes.{AreSameFunction, HaveSameModels, IsCanonical, IsFunction, IsOver, holds, is_model, root_of};
-ghost use Rattle.plai_bdd.specs.Product.{together};
 ghost use Rattle.plai_bdd.specs.Text.{tree_text};
+ghost use Rattle.std.specs.List.{list_any};
+ghost use Rattle.plai_bdd.specs.Table.{slot_of};
 ghost use Rattle.plai_bdd.specs.Slots.{AllTrue, Somewhere, conjunction, quantified, some_slot};
 
 use crate::chain::chain;
 use crate::change::{Change, Connective};
-use crate::combine::{Pair, combine, has_branch};
+use crate::combine::{Pair, combine};
 use crate::node::Node;
 use crate::print::write_node;
-use crate::product::and_exists;
+use crate::used::{branch_slots, has_branch, is_always};
 use crate::walk::{answer_at, either, implies_at, root_of_either};
 use indexmap::{IndexMap, IndexSet};
 use plai_base::Mask;
@@ -175,15 +176,30 @@ impl Bdd {
         variable.iff(alloc, &conjunction)
     }
 
+    /// The slots that its nodes branch on. It depends on no others.
+    pub fn slots(&self) -> Mask
+        ensures branches { (slot : ℕ) → slot < 64 → has_slot result slot ≡ list_any (λ node. nat_eq (slot_of node) slot) self.now }
+        ensures free { (slot : ℕ) → slot < 64 → has_slot result slot ≡ false → IsFree (holds self.now) slot }
+    {
+        branch_slots(self.nodes.as_slice())
+    }
+
+    /// Whether the function is true at all assignments. Nothing is allocated.
+    pub fn is_always(&self) -> bool
+        ensures { IsTrue result ↔ ((at : Assignment) → IsTrue (holds self.now at)) }
+    {
+        is_always(self.nodes.as_slice())
+    }
+
     /// Whether some node branches on the slot.
-    pub(crate) fn branches_on(&self, slot: u32) -> bool
+    fn branches_on(&self, slot: u32) -> bool
         ensures { result ≡ false → IsFree (holds self.now) slot }
     {
         has_branch(self.nodes.as_slice(), slot)
     }
 
     /// The function that is true where this one is at some answer of the slot.
-    pub(crate) fn exists_one(&self, alloc: Global, slot: u32) -> Result<Bdd, AllocError>
+    pub fn exists_one(&self, alloc: Global, slot: u32) -> Result<Bdd, AllocError>
         ensures { IfOk result (λ b. IsFunction b (λ at. holds self.now (with_slot at slot false) || holds self.now (with_slot at slot true))) }
     {
         self.combined(alloc, self, Connective::Or, Change::Apart(slot))
@@ -214,17 +230,6 @@ impl Bdd {
             rest = rest.exists_slot(alloc, slots, k)?;
         }
         Ok(rest)
-    }
-
-    /// The function that is true where all of these are, at some answers of the slots of the set: the relational product of
-    /// Burch, Clarke and Long, "Symbolic Model Checking with Partitioned Transition Relations", VLSI 1991. The functions are joined
-    /// only where a slot that goes asks for it, so that none is over more slots than it must be.
-    pub fn and_exists(alloc: Global, functions: Vec<Bdd>, slots: Mask) -> Result<Bdd, AllocError>
-        ensures function { IfOk result (λ b. IsFunction b (quantified slots (together functions.items))) }
-        ensures meaning { IfOk result (λ b. (at : Assignment) → IsTrue (holds b at) ↔ Somewhere slots (together functions.items) at) }
-        ensures free { IfOk result (λ b. (slot : ℕ) → slot < 64 → IsTrue (has_slot slots slot) → IsFree (holds b) slot) }
-    {
-        and_exists(alloc, functions, slots)
     }
 
     /// Whether each assignment that makes this function true makes the other true. Nothing is allocated.

@@ -69,13 +69,6 @@ pub fn slot_of(node: Node) -> u32
     }
 }
 
-/// Whether some node is a branch on the slot, which is below 64.
-pub fn has_branch(nodes: &[Node], slot: u32) -> bool
-    ensures { result ≡ list_any (λ node. nat_eq (slot_of_node node) slot) nodes.now }
-{
-    nodes.iter().any(|node| slot_of(*node) == slot)
-}
-
 /// The lesser slot of two nodes.
 pub fn first_slot(a: Node, b: Node) -> u32
     ensures { result ≡ min (slot_of_node a) (slot_of_node b) }

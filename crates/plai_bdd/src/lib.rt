@@ -8,10 +8,8 @@ mod change;
 mod combine;
 mod node;
 mod print;
-mod product;
 mod table;
-#[cfg(test)]
-mod tests;
+mod used;
 mod walk;
 
 pub use bdd::Bdd;

@@ -13,6 +13,3 @@ mod lists;
 pub use actions::{Actions, actions_of, table};
 pub use concrete::meaning;
 pub use laws::{meanings_are_allowed, table_laws};
-
-#[cfg(test)]
-mod tests;

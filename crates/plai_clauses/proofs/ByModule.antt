@@ -37,7 +37,7 @@ le_of_not_gt Less e = refl
 le_of_not_gt Equal e = refl
 le_of_not_gt Greater e = cc
 
-IsUpTo-trans : (a b c : List ℕ) → IsUpTo a b → IsUpTo b c → IsUpTo a c
+pub IsUpTo-trans : (a b c : List ℕ) → IsUpTo a b → IsUpTo b c → IsUpTo a c
 IsUpTo-trans a b c h k =
     le_of_not_gt (slice_cmp nat_cmp a c)
     (upto nat_list_cmp_total a b c (not_gt (slice_cmp nat_cmp a b) h) (not_gt (slice_cmp nat_cmp b c) k))
@@ -45,7 +45,7 @@ IsUpTo-trans a b c h k =
 up_to_below : (a b : List ℕ) → is_lt (slice_cmp nat_cmp a b) ≡ true → IsUpTo a b
 up_to_below a b e = le_of_lt (slice_cmp nat_cmp a b) e
 
-up_to_not_below : (a b : List ℕ) → is_lt (slice_cmp nat_cmp a b) ≡ false → IsUpTo b a
+pub up_to_not_below : (a b : List ℕ) → is_lt (slice_cmp nat_cmp a b) ≡ false → IsUpTo b a
 up_to_not_below a b e = ap is_le (nat_list_cmp_total.antisymm b a) ∙ back_le (slice_cmp nat_cmp a b) e
 
 -- lists of what belongs to modules

@@ -4,4 +4,7 @@ pub mod Changes
 pub mod Kept
 pub mod Formed
 pub mod ByModule
+pub mod PlaceBehind
+pub mod Keyed
+pub mod Exporters
 pub mod Invariant

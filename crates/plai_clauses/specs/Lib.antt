@@ -1,7 +1,9 @@
 pub mod Builtins
 pub mod Bodies
 pub mod ClauseOf
+pub mod Exporters
 pub mod Program
+pub mod Keyed
 pub mod WellFormed
 pub mod Codes
 pub mod ByModule

@@ -30,11 +30,6 @@ abbrev pub clauses_in : List Definition → PredKey → List Clause
 clauses_in [] pred = []
 clauses_in (d ∷ ds) pred = if same_pred d.pred pred then d.clauses else clauses_in ds pred
 
--- the place of the predicate's definition, the end where it has none
-abbrev pub place_in : List Definition → PredKey → ℕ
-place_in [] pred = 0
-place_in (d ∷ ds) pred = if same_pred d.pred pred then 0 else suc (place_in ds pred)
-
 -- the clauses of a predicate in order, none for an undefined one
 abbrev pub clauses_of : ProgramView → PredKey → List Clause
 clauses_of program pred = clauses_in program.definitions pred

@@ -1,9 +1,12 @@
 //! The clauses of the predicates.
-ghost use Rattle.std.specs.Prelude.{◌≡◌, ◌<◌, ◌≤◌, ◌-◌, ◌^◌, ◌++◌, [], ◌∷◌, length, min, IfOk, OnOk, OnErr};
+ghost use Rattle.std.specs.Prelude.{◌≡◌, ◌<◌, ◌+◌, ◌-◌, ◌^◌, ◌++◌, [], ◌∷◌, length, min, take, IfOk, OnOk, OnErr};
 ghost use Rattle.std.specs.List.{remove, sum_by};
-ghost use Rattle.plai_clauses.specs.Program.{clauses_in, place_in, with_clause, changed_in};
+ghost use Rattle.indexmap.specs.IndexMap.{insert_entry, IsUnique};
+ghost use Rattle.plai_clauses.specs.Program.{clauses_in, same_pred, with_clause, changed_in};
+ghost use Rattle.plai_clauses.specs.Keyed.{definitions_in};
 
 use crate::clause::Clause;
+use indexmap::IndexMap;
 use plai_terms::PredKey;
 use std::alloc::{AllocError, Global};
 use std::marker::Model;
@@ -85,110 +88,114 @@ pub struct Definition {
     pub clauses: ClauseList,
 }
 
+/// The clauses of each predicate, found by its key, in the order in which the predicates came.
+pub(crate) type Definitions = IndexMap<PredKey, ClauseList>;
+
+// Puts an equal predicate with equal clauses last.
+fn push_copy(
+    alloc: Global,
+    definitions: &Definitions,
+    place: usize,
+    copies: &mut Definitions,
+) -> Result<(), AllocError>
+    requires unique { IsUnique same_pred definitions.now }
+    requires within { place < length definitions.now.entries }
+    requires first { copies.old.entries ≡ take place definitions.now.entries }
+    ensures { OnOk result (copies.new.entries ≡ take (place + 1) definitions.now.entries) }
+{
+    let (pred, clauses) = definitions.get_index(place).unwrap();
+    copies.insert(pred.copy(alloc)?, clauses.copy(alloc)?)?;
+    Ok(())
+}
+
 pub(crate) fn copy_definitions(
     alloc: Global,
-    definitions: &[Definition],
-) -> Result<Vec<Definition>, AllocError>
-    ensures { IfOk result (λ copies. copies.items ≡ definitions.now) }
+    definitions: &Definitions,
+) -> Result<Definitions, AllocError>
+    ensures { IfOk result (λ copies. copies.entries ≡ definitions.now.entries) }
 {
-    let mut copies = Vec::new(alloc);
-    for definition in definitions {
-        copies.push(Definition {
-            pred: definition.pred.copy(alloc)?,
-            clauses: definition.clauses.copy(alloc)?,
-        })?;
+    let mut copies = IndexMap::new(alloc);
+    for place in 0..definitions.len() {
+        push_copy(alloc, definitions, place, &mut copies)?;
     }
     Ok(copies)
 }
 
 /// The clauses of the predicate, none where it has no definition.
-pub(crate) fn clauses_in<'a>(definitions: &'a [Definition], pred: &PredKey) -> &'a [Clause]
-    ensures { result.now ≡ clauses_in definitions.entry.now pred.now }
+pub(crate) fn clauses_in<'a>(definitions: &'a Definitions, pred: &PredKey) -> &'a [Clause]
+    ensures { result.now ≡ clauses_in (definitions_in definitions.entry.now.entries) pred.now }
 {
-    for definition in definitions {
-        if definition.pred == *pred {
-            return definition.clauses.as_slice();
-        }
+    match definitions.get(pred) {
+        Some(clauses) => clauses.as_slice(),
+        None => &[],
     }
-    &[]
-}
-
-/// The place of the predicate's definition, the end where it has none.
-fn place_in(definitions: &[Definition], pred: &PredKey) -> usize
-    ensures place { result ≡ place_in definitions.now pred.now }
-    ensures within { result ≤ length definitions.now }
-{
-    let mut place: usize = 0;
-    for definition in definitions {
-        if definition.pred == *pred {
-            return place;
-        }
-        place += 1;
-    }
-    place
 }
 
 fn push_new(
     alloc: Global,
-    definitions: &mut Vec<Definition>,
+    definitions: &mut Definitions,
     pred: PredKey,
     clause: Clause,
 ) -> Result<(), AllocError>
-    ensures ok { OnOk result (definitions.new.items ≡ definitions.old.items ++ record { pred = pred; clauses = clause ∷ [] } ∷ []) }
-    ensures err { OnErr result (definitions.new.items ≡ definitions.old.items) }
+    ensures ok { OnOk result (definitions.new.entries ≡ insert_entry same_pred definitions.old.entries pred (clause ∷ [])) }
+    ensures err { OnErr result (definitions.new.entries ≡ definitions.old.entries) }
 {
     let mut clauses = ClauseList::new(Vec::new(alloc));
     clauses.push(clause)?;
-    definitions.push(Definition { pred, clauses })?;
+    definitions.insert(pred, clauses)?;
     Ok(())
 }
 
 /// Puts the clause last in its predicate.
 pub(crate) fn push_clause(
     alloc: Global,
-    definitions: &mut Vec<Definition>,
+    definitions: &mut Definitions,
     pred: PredKey,
     clause: Clause,
 ) -> Result<(), AllocError>
-    ensures ok { OnOk result (definitions.new.items ≡ with_clause definitions.old.items pred clause) }
-    ensures err { OnErr result (definitions.new.items ≡ definitions.old.items) }
+    ensures ok { OnOk result (definitions_in definitions.new.entries ≡ with_clause (definitions_in definitions.old.entries) pred clause) }
+    ensures err { OnErr result (definitions.new.entries ≡ definitions.old.entries) }
 {
-    let place = place_in(definitions, &pred);
-    if place < definitions.len() {
-        let definition = &mut definitions[place];
-        return definition.clauses.push(clause);
+    match definitions.get_mut(&pred) {
+        Some(clauses) => clauses.push(clause),
+        None => push_new(alloc, definitions, pred, clause),
     }
-    push_new(alloc, definitions, pred, clause)
 }
 
 /// Takes the clause at that place in its predicate away.
-pub(crate) fn remove_clause(definitions: &mut [Definition], pred: &PredKey, number: usize)
-    requires { number < length (clauses_in definitions.old pred.now) }
-    ensures { definitions.new ≡ changed_in (λ clauses. remove clauses number) definitions.old pred.now }
+pub(crate) fn remove_clause(definitions: &mut Definitions, pred: &PredKey, number: usize)
+    requires { number < length (clauses_in (definitions_in definitions.old.entries) pred.now) }
+    ensures { definitions_in definitions.new.entries ≡ changed_in (λ clauses. remove clauses number) (definitions_in definitions.old.entries) pred.now }
 {
-    let place = place_in(definitions, pred);
-    let definition = &mut definitions[place];
-    definition.clauses.remove(number);
+    match definitions.get_mut(pred) {
+        Some(clauses) => clauses.remove(number),
+        None => {}
+    }
 }
 
 /// Takes all clauses of the predicate away.
-pub(crate) fn clear_clauses(definitions: &mut [Definition], pred: &PredKey)
-    ensures { definitions.new ≡ changed_in (λ _. []) definitions.old pred.now }
+pub(crate) fn clear_clauses(definitions: &mut Definitions, pred: &PredKey)
+    ensures { definitions_in definitions.new.entries ≡ changed_in (λ _. []) (definitions_in definitions.old.entries) pred.now }
 {
-    let place = place_in(definitions, pred);
-    if place < definitions.len() {
-        let definition = &mut definitions[place];
-        definition.clauses.clear();
+    match definitions.get_mut(pred) {
+        Some(clauses) => clauses.clear(),
+        None => {}
     }
 }
 
-/// How many clauses there are, or the largest `u64`.
-pub(crate) fn count_clauses(definitions: &[Definition]) -> u64
-    ensures { result ≡ min (sum_by (λ d. length d.clauses) definitions.now) (2 ^ 64 - 1) }
+fn count_in(lists: &[ClauseList]) -> u64
+    ensures { result ≡ min (sum_by length lists.now) (2 ^ 64 - 1) }
 {
     let mut count: u64 = 0;
-    for definition in definitions {
-        count = count.saturating_add(definition.clauses.as_slice().len() as u64);
+    for clauses in lists {
+        count = count.saturating_add(clauses.as_slice().len() as u64);
     }
     count
+}
+
+/// How many clauses there are, or the largest `u64`.
+pub(crate) fn count_clauses(definitions: &Definitions) -> u64
+    ensures { result ≡ min (sum_by (λ d. length d.clauses) (definitions_in definitions.now.entries)) (2 ^ 64 - 1) }
+{
+    count_in(definitions.values().as_slice())
 }

@@ -1,5 +1,8 @@
 //! Places in lists of entries and checks, which are in the order of their modules' names.
-ghost use Rattle.std.specs.Prelude.{◌≡◌, ◌≤◌, ℕ, List, length, map};
+ghost use Rattle.std.specs.Prelude.{◌≡◌, ◌≤◌, ℕ, not, AllPairs, List, length, map};
+ghost use Rattle.std.specs.Ordering.{nat_cmp, is_lt};
+ghost use Rattle.std.specs.Cmp.Lexicographic.{slice_cmp};
+ghost use Rattle.plai_clauses.specs.ByModule.{IsUpTo};
 ghost use Rattle.plai_clauses.specs.Program.{place_behind, place_of};
 
 use crate::check::Check;
@@ -32,20 +35,27 @@ impl Homed for Check {
     }
 }
 
-/// The place before the first item of a later module.
+/// Whether the item belongs to the module of that name or to one before it.
+fn is_up_to<T: Homed>(item: &T, name: &Name) -> bool
+    ensures { result ≡ not (is_lt (slice_cmp nat_cmp name.now (T.home item.now))) }
+{
+    match name.cmp(item.home()) {
+        Ordering::Less => false,
+        Ordering::Equal | Ordering::Greater => true,
+    }
+}
+
+/// The place before the first item of a later module, among items in the order of their modules' names.
 pub(crate) fn place_behind<T: Homed>(items: &[T], name: &Name) -> usize
+    requires { AllPairs (λ a b. IsUpTo (T.home a) (T.home b)) items.now }
     ensures place { result ≡ place_behind name.now (map T.home items.now) }
     ensures within { result ≤ length items.now }
 {
-    let mut place: usize = 0;
-    for item in items {
-        match name.cmp(item.home()) {
-            Ordering::Less => return place,
-            Ordering::Equal | Ordering::Greater => {}
-        }
-        place += 1;
-    }
-    place
+    items.partition_point(
+        |item: &T| -> bool
+            ensures { result ≡ not (is_lt (slice_cmp nat_cmp name.entry.now (T.home item.now))) }
+        { is_up_to(item, name) },
+    )
 }
 
 /// The place of the module's item of this number, from 1, the end where there is none.

@@ -13,8 +13,6 @@ mod keys;
 mod laws;
 mod modules;
 mod program;
-#[cfg(test)]
-mod tests;
 
 pub use cause::{ClauseCause, ClauseFail};
 pub use check::{Check, CheckKind};

@@ -8,7 +8,7 @@ ghost use Rattle.plai_clauses.specs.Program.{clauses_of, module_in, items_of, re
 use crate::check::Check;
 use crate::clause::Clause;
 use crate::definition::{
-    Definition, clauses_in, clear_clauses, copy_definitions, count_clauses, push_clause,
+    Definitions, clauses_in, clear_clauses, copy_definitions, count_clauses, push_clause,
     remove_clause,
 };
 use crate::entry::Entry;
@@ -16,6 +16,7 @@ use crate::homes::{place_behind, place_of};
 use crate::imports::spoken_of;
 use crate::keys::is_builtin;
 use crate::modules::{Module, copy_modules, module_in};
+use indexmap::IndexMap;
 use plai_terms::{Name, PredKey};
 use std::alloc::{AllocError, Global};
 use std::marker::Model;
@@ -25,7 +26,7 @@ use std::marker::Model;
 #[derive(Debug, Drop)]
 pub struct Program {
     modules: Vec<Module>,
-    definitions: Vec<Definition>,
+    definitions: Definitions,
     entries: Vec<Entry>,
     checks: Vec<Check>,
 }
@@ -34,14 +35,15 @@ impl Model for Program {
     ghost use Rattle.plai_clauses.specs.Program.{ProgramView};
     ghost use Rattle.plai_clauses.specs.Invariant.{IsProgram};
     ghost use Rattle.plai_clauses.specs.Codes.{program_code};
+    ghost use Rattle.plai_clauses.specs.Keyed.{definitions_in};
 
     ghost Value = { ProgramView };
 
     ghost coded = { program_code };
 
-    ghost view = { λ p. record { modules = p.modules.items; definitions = p.definitions.items; entries = p.entries.items; checks = p.checks.items } };
+    ghost view = { λ p. record { modules = p.modules.items; definitions = definitions_in p.definitions.entries; entries = p.entries.items; checks = p.checks.items } };
 
-    ghost invariant = { λ p. IsProgram (record { modules = p.modules.items; definitions = p.definitions.items; entries = p.entries.items; checks = p.checks.items }) };
+    ghost invariant = { λ p. IsProgram (record { modules = p.modules.items; definitions = definitions_in p.definitions.entries; entries = p.entries.items; checks = p.checks.items }) };
 }
 
 fn copy_entries(alloc: Global, entries: &[Entry]) -> Result<Vec<Entry>, AllocError>
@@ -71,7 +73,7 @@ impl Program {
     {
         Program {
             modules: Vec::new(alloc),
-            definitions: Vec::new(alloc),
+            definitions: IndexMap::new(alloc),
             entries: Vec::new(alloc),
             checks: Vec::new(alloc),
         }

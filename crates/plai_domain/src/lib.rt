@@ -5,8 +5,6 @@ mod action;
 mod dom_fail;
 mod domain;
 mod key;
-#[cfg(test)]
-mod tests;
 mod work;
 mod work_log;
 

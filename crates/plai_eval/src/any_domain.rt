@@ -1,7 +1,7 @@
 ghost use Rattle.plai_domain.specs.Plain.{PlainDomain};
 
-/// Any domain of patterns.
+/// Any domains of patterns, one for each value of the type. A law of all domains is a clause over this trait.
 pub trait AnyPlainDomain {
-    /// Its meaning.
-    ghost plain: { PlainDomain };
+    /// What the domain means.
+    ghost plain: { Self → PlainDomain };
 }

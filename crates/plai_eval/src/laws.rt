@@ -19,15 +19,15 @@ use crate::any_domain::AnyPlainDomain;
 
 /// Two least tables of a program are equal.
 pub fn least_table_is_one<T: AnyPlainDomain>()
-    ensures { (program : ProgramView) (rows others : List PlainRow) → IsLeastTable T.plain program rows
-        → IsLeastTable T.plain program others → rows ≡ others }
+    ensures { (domain : T) (program : ProgramView) (rows others : List PlainRow) → IsLeastTable (T.plain domain) program rows
+        → IsLeastTable (T.plain domain) program others → rows ≡ others }
 {}
 
 /// Where all clauses are facts, a row for each entry, in order, with the join of what its predicate's facts answer, is
 /// the least table. No law of the domain is needed.
 pub fn facts_give_the_least_table<T: AnyPlainDomain>()
-    ensures { (program : ProgramView) → AreFacts program → (rows : List PlainRow) → AreFactRows T.plain program rows
-        → IsLeastTable T.plain program rows }
+    ensures { (domain : T) (program : ProgramView) → AreFacts program → (rows : List PlainRow)
+        → AreFactRows (T.plain domain) program rows → IsLeastTable (T.plain domain) program rows }
 {}
 
 /// A module whose clauses have no bodies is a program of facts.
@@ -38,15 +38,16 @@ pub fn facts_of_a_module()
 
 /// At a well formed program, a lawful domain meets what the theory of stages and tables asks.
 pub fn laws_of_theory<T: AnyPlainDomain>()
-    ensures domain { IsLawful T.plain → (program : ProgramView) → IsWellFormed program
-        → theory.IsLawful (as_domain T.plain) (as_program T.plain program) }
-    ensures limits { IsLawful T.plain → (program : ProgramView) → IsWellFormed program
-        → AreUpwardClosed (as_domain T.plain) (as_program T.plain program) (as_limits T.plain) }
-    ensures order { IsStrictOrder (as_domain T.plain) (before T.plain) }
+    ensures domain { (domain : T) → IsLawful (T.plain domain) → (program : ProgramView) → IsWellFormed program
+        → theory.IsLawful (as_domain (T.plain domain)) (as_program (T.plain domain) program) }
+    ensures limits { (domain : T) → IsLawful (T.plain domain) → (program : ProgramView) → IsWellFormed program
+        → AreUpwardClosed (as_domain (T.plain domain)) (as_program (T.plain domain) program) (as_limits (T.plain domain)) }
+    ensures order { (domain : T) → IsStrictOrder (as_domain (T.plain domain)) (before (T.plain domain)) }
 {}
 
 /// An evaluation has a first set of too many groups exactly where one of its operations forms such a set.
 pub fn first_sets_are_sets<T: AnyPlainDomain>()
-    ensures { (source : Source) (clause : Clause) (call : Abs) → IsSome (evaluation T.plain source clause call).over
-        ↔ IsOverAt (as_domain T.plain) (as_limits T.plain) (as_source T.plain source) clause call }
+    ensures { (domain : T) (source : Source) (clause : Clause) (call : Abs)
+        → IsSome (evaluation (T.plain domain) source clause call).over
+        ↔ IsOverAt (as_domain (T.plain domain)) (as_limits (T.plain domain)) (as_source (T.plain domain) source) clause call }
 {}

@@ -1,4 +1,4 @@
-//! Runs plai on the examples in `data`, and tells of each whether it prints the table that stands beside it.
+//! Runs plai on the examples in `data`, and tells of each whether it prints what stands beside it, with its status.
 #![tactic(auto)]
 
 ghost use Rattle.std.specs.Prelude.{◌≡◌, ◌<◌};
@@ -40,25 +40,31 @@ fn status<L: Ledger, B: Library>(
     )
 }
 
-/// Whether plai prints, for the modules in these files, the table in that file.
+/// Whether plai prints, for these words, what stands in that file, and ends with that status.
 fn prints_table<B: Library>(
     alloc: Global,
     library: &mut B,
-    files: &[&str],
+    words: &[&str],
     table: &str,
+    wanted: u8,
 ) -> Result<bool, AllocError> {
     let mut want = Vec::new(alloc);
     if library.read(alloc, table, &mut want).is_err() {
         return Ok(false);
     }
     let mut sink = MemorySink::new(alloc, ROOM, ROOM, Vec::new(alloc))?;
-    let status = status::<Brand, B>(alloc, files, library, &mut sink, Blank::new(1));
-    Ok(status == 0 && sink.bytes() == want.as_slice())
+    let status = status::<Brand, B>(alloc, words, library, &mut sink, Blank::new(1));
+    Ok(status == wanted && sink.bytes() == want.as_slice())
 }
 
-fn tell<R: Files + Print + AllocGlobal>(rt: &R, files: &[&str], table: &str) -> io::Result<()> {
+fn tell<R: Files + Print + AllocGlobal>(
+    rt: &R,
+    words: &[&str],
+    table: &str,
+    wanted: u8,
+) -> io::Result<()> {
     let mut library = FileLibrary::new(rt);
-    let word = if prints_table(rt.alloc(), &mut library, files, table)? {
+    let word = if prints_table(rt.alloc(), &mut library, words, table, wanted)? {
         "as expected"
     } else {
         "another table"
@@ -67,8 +73,17 @@ fn tell<R: Files + Print + AllocGlobal>(rt: &R, files: &[&str], table: &str) -> 
 }
 
 fn main(rt: HostRuntime) -> io::Result<()> {
-    tell(&rt, &["app.pl"], "app.table")?;
-    tell(&rt, &["sort.pl", "lists.pl"], "sort.table")?;
-    tell(&rt, &["len.pl"], "len.table")?;
-    tell(&rt, &["deriv.pl"], "deriv.table")
+    tell(&rt, &["app.pl"], "app.table", 0)?;
+    tell(&rt, &["sort.pl", "lists.pl"], "sort.table", 0)?;
+    tell(&rt, &["len.pl"], "len.table", 0)?;
+    tell(&rt, &["deriv.pl"], "deriv.table", 0)?;
+    tell(&rt, &["fact.pl"], "fact.table", 0)?;
+    tell(&rt, &["never.pl"], "never.table", 0)?;
+    tell(
+        &rt,
+        &["--rows", "2", "sort.pl", "lists.pl"],
+        "rows.table",
+        1,
+    )?;
+    tell(&rt, &["findall.pl"], "findall.table", 3)
 }

@@ -6,10 +6,10 @@ use Rattle.plai_base.specs.Sets.{has}
 use Rattle.plai_base.proofs.Sets.{kept_has}
 use Rattle.plai_base.proofs.Bits.{top_lt, top_mod, top_div}
 use Rattle.plai_domain.specs.Conditions.{IsState, IsValue}
-use Rattle.plai_assignments.specs.Groundness.{groundness, arity_of}
-use Rattle.plai_assignments.proofs.Laws.{value_of_positive}
-use Rattle.plai_assignments.proofs.Parts.{value_kept}
-use Rattle.plai_bdd.specs.Product.{together}
+use Rattle.plai_pos_laws.specs.Groundness.{groundness, arity_of}
+use Rattle.plai_pos_laws.proofs.Laws.{value_of_positive}
+use Rattle.plai_pos_laws.proofs.Parts.{value_kept}
+use Rattle.plai_factors.specs.Product.{together}
 use Rattle.plai_pos.specs.declared.value.Value.{Value}
 use Rattle.plai_pos.specs.declared.value.State.{State}
 use Rattle.plai_pos.specs.Values.{value_of, state_of, models_in, terms_at}

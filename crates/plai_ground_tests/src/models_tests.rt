@@ -2,7 +2,7 @@
 ghost use Rattle.std.specs.Prelude.{◌≡◌, ◌≤◌, ◌<◌, IfOk, IfSome, IsTrue, All};
 ghost use Rattle.plai_domain.specs.Conditions.{IsHead, AreArguments};
 ghost use Rattle.plai_domain.specs.Instances.{all_below, speaks_within, acts_within};
-ghost use Rattle.plai_assignments.specs.Groundness.{arity_of};
+ghost use Rattle.plai_pos_laws.specs.Groundness.{arity_of};
 ghost use Rattle.plai_pos.specs.Values.{value_of, state_of};
 
 use crate::generated::{Numbers, actions, terms};

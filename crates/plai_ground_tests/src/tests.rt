@@ -1,7 +1,7 @@
 ghost use Rattle.std.specs.Prelude.{◌≡◌, ◌<◌, IfOk, length};
 ghost use Rattle.plai_terms.specs.Readable.{is_wide};
 ghost use Rattle.plai_clauses.specs.WellFormed.{IsWellFormedClause};
-ghost use Rattle.plai_assignments.specs.Groundness.{groundness};
+ghost use Rattle.plai_pos_laws.specs.Groundness.{groundness};
 ghost use Rattle.plai_pos.specs.Values.{value_of};
 ghost use Rattle.plai_eval.specs.Answering.{AnswersFit};
 ghost use Rattle.plai_ground_tests.specs.ByArity.{by_arity};

@@ -14,6 +14,3 @@ mod token;
 pub use fail::{LexCause, LexFail};
 pub use lexer::{Lexer, tokens_given_and_left};
 pub use token::{Token, TokenKind};
-
-#[cfg(test)]
-mod tests;

@@ -5,3 +5,6 @@ pub mod Targets
 pub mod Imported
 pub mod Counted
 pub mod There
+pub mod KeySets
+pub mod Heads
+pub mod Taken

@@ -92,6 +92,10 @@ behind_item files items imports _ = Ok imports
 abbrev pub behind_term : List FileItems → List NumberedItem → List (List ℕ × ℕ × List ℕ) → NumberedItem → Result (List (List ℕ × ℕ × List ℕ)) Refusal
 behind_term files items imports numbered = at_term numbered.term (behind_item files items imports numbered.item)
 
+-- a file without its items: its module and what that exports
+abbrev pub head_of_file : FileItems → FileItems
+head_of_file file = record { «module» = file.module; exports = file.exports; items = []; count = 0 }
+
 -- what a file of several imports in all, or its first refused directive
 abbrev pub imports_of : List FileItems → List NumberedItem → Result (List (List ℕ × ℕ × List ℕ)) Refusal
 imports_of files items = steps (behind_term files items) [] items

@@ -1,4 +1,5 @@
 pub mod Steps
 pub mod Importing
+pub mod KeySets
 pub mod Loading
 pub mod Outcomes

@@ -6,50 +6,41 @@ ghost use Rattle.plai_sources.specs.Answering.{AnswersFile};
 ghost use Rattle.plai_modules.specs.Importing.{file_of, keys_of, is_from_another, clashes, with_import, with_imports, imported, imported_from, behind_item, behind_term, imports_of, at_term};
 ghost use Rattle.plai_modules.specs.Outcomes.{Leaves};
 
-use crate::keys::{are_exported, has_clause};
-use plai_clauses::{Imports, exporter};
-use plai_sources::{FileItems, Item, ItemsFail, LoadCause, NumberedItem};
+use crate::exporter::Exporter;
+use crate::own_items::OwnItems;
+use plai_clauses::Imports;
+use plai_sources::{Item, ItemsFail, LoadCause, NumberedItem};
 use plai_terms::{Listed, Name};
 use std::alloc::{AllocError, Global};
 
 /// The first of the files whose module has that name.
-fn file_of<'a>(files: &'a [FileItems], name: &Name) -> Option<&'a FileItems>
+fn file_of<'a>(files: &'a [Exporter], name: &Name) -> Option<&'a Exporter>
     ensures { option_copied result ≡ file_of files.entry.now name.now }
 {
     for file in files {
-        if file.module == *name {
+        if *file.module() == *name {
             return Some(file);
         }
     }
     None
 }
 
-fn is_from_another(imports: &[(Name, u32, Name)], from: &Name, key: &(Name, u32)) -> bool
+fn is_from_another(imports: &Imports, from: &Name, key: &(Name, u32)) -> bool
     ensures { result ≡ is_from_another imports.now from.now key.now }
 {
-    match exporter(imports, &key.0, key.1) {
+    match imports.exporter(&key.0, key.1) {
         Some(other) => *other != *from,
         None => false,
     }
 }
 
-fn clashes(
-    items: &[NumberedItem],
-    imports: &[(Name, u32, Name)],
-    from: &Name,
-    key: &(Name, u32),
-) -> bool
+fn clashes(items: &OwnItems<'_>, imports: &Imports, from: &Name, key: &(Name, u32)) -> bool
     ensures { result ≡ clashes items.now imports.now from.now key.now }
 {
-    has_clause(items, key) || is_from_another(imports, from, key)
+    items.has_clause(key) || is_from_another(imports, from, key)
 }
 
-fn some_clash(
-    items: &[NumberedItem],
-    imports: &[(Name, u32, Name)],
-    from: &Name,
-    keys: &[(Name, u32)],
-) -> bool
+fn some_clash(items: &OwnItems<'_>, imports: &Imports, from: &Name, keys: &[(Name, u32)]) -> bool
     ensures { result ≡ list_any (clashes items.now imports.now from.now) keys.now }
 {
     keys.iter().any(|key| clashes(items, imports, from, key))
@@ -58,13 +49,13 @@ fn some_clash(
 fn push_import(
     alloc: Global,
     from: &Name,
-    imports: &mut Vec<(Name, u32, Name)>,
+    imports: &mut Imports,
     key: &(Name, u32),
 ) -> Result<(), AllocError>
-    ensures { OnOk result (imports.new.items ≡ with_import from.now imports.old.items key.now) }
+    ensures { OnOk result (imports.new ≡ with_import from.now imports.old key.now) }
 {
-    if exporter(imports, &key.0, key.1).is_none() {
-        imports.push((key.0.copy(alloc)?, key.1, from.copy(alloc)?))?;
+    if imports.exporter(&key.0, key.1).is_none() {
+        imports.push(alloc, key.0.copy(alloc)?, key.1, from.copy(alloc)?)?;
     }
     Ok(())
 }
@@ -72,10 +63,10 @@ fn push_import(
 fn push_imports(
     alloc: Global,
     from: &Name,
-    imports: &mut Vec<(Name, u32, Name)>,
+    imports: &mut Imports,
     keys: &[(Name, u32)],
 ) -> Result<(), AllocError>
-    ensures { OnOk result (imports.new.items ≡ with_imports from.now imports.old.items keys.now) }
+    ensures { OnOk result (imports.new ≡ with_imports from.now imports.old keys.now) }
 {
     for key in keys {
         push_import(alloc, from, imports, key)?;
@@ -83,19 +74,19 @@ fn push_imports(
     Ok(())
 }
 
-/// Imports these keys of a module with these exports, by the directive of that number.
+/// Imports these keys of a module, by the directive of that number.
 fn import_keys(
     alloc: Global,
-    items: &[NumberedItem],
+    items: &OwnItems<'_>,
     term: u64,
     from: &Name,
-    exports: &[(Name, u32)],
+    file: &Exporter,
     keys: &[(Name, u32)],
-    imports: &mut Vec<(Name, u32, Name)>,
+    imports: &mut Imports,
 ) -> Result<(), ItemsFail>
-    ensures { Leaves (at_term term (imported items.now imports.old.items from.now exports.now keys.now)) imports.new.items result }
+    ensures { Leaves (at_term term (imported items.now imports.old from.now file.now.exports keys.now)) imports.new result }
 {
-    if !are_exported(exports, keys) {
+    if !file.has_all(keys) {
         return Err(ItemsFail::Refused {
             term,
             cause: LoadCause::NotExported,
@@ -126,14 +117,14 @@ fn keys_of<'a>(
 /// Imports what a directive names, all that the module exports where it names no keys.
 fn import_from(
     alloc: Global,
-    files: &[FileItems],
-    items: &[NumberedItem],
+    files: &[Exporter],
+    items: &OwnItems<'_>,
     term: u64,
     from: &Name,
     named: &Option<Listed<(Name, u32)>>,
-    imports: &mut Vec<(Name, u32, Name)>,
+    imports: &mut Imports,
 ) -> Result<(), ItemsFail>
-    ensures { Leaves (at_term term (imported_from items.now imports.old.items from.now named.now (file_of files.now from.now))) imports.new.items result }
+    ensures { Leaves (at_term term (imported_from items.now imports.old from.now named.now (file_of files.now from.now))) imports.new result }
 {
     let Some(file) = file_of(files, from) else {
         return Err(ItemsFail::Refused {
@@ -141,19 +132,18 @@ fn import_from(
             cause: LoadCause::UnknownModule,
         });
     };
-    let exports = file.exports.as_slice();
-    let keys = keys_of(named, exports);
-    import_keys(alloc, items, term, from, exports, keys, imports)
+    let keys = keys_of(named, file.exports());
+    import_keys(alloc, items, term, from, file, keys, imports)
 }
 
 fn import_item(
     alloc: Global,
-    files: &[FileItems],
-    items: &[NumberedItem],
+    files: &[Exporter],
+    items: &OwnItems<'_>,
     numbered: &NumberedItem,
-    imports: &mut Vec<(Name, u32, Name)>,
+    imports: &mut Imports,
 ) -> Result<(), ItemsFail>
-    ensures { Leaves (behind_term files.now items.now imports.old.items numbered.now) imports.new.items result }
+    ensures { Leaves (behind_term files.now items.now imports.old numbered.now) imports.new result }
 {
     match &numbered.item {
         Item::UseModule(from, named) => {
@@ -167,14 +157,14 @@ fn import_item(
 /// it can't, with the first such.
 pub(crate) fn imports_of(
     alloc: Global,
-    files: &[FileItems],
-    items: &[NumberedItem],
+    files: &[Exporter],
+    items: &OwnItems<'_>,
 ) -> Result<Imports, ItemsFail>
     ensures { AnswersFile (imports_of files.now items.now) result }
 {
-    let mut imports = Vec::new(alloc);
-    for numbered in items {
+    let mut imports = Imports::empty(alloc);
+    for numbered in items.as_slice() {
         import_item(alloc, files, items, numbered, &mut imports)?;
     }
-    Ok(Imports::new(imports))
+    Ok(imports)
 }

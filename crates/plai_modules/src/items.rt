@@ -10,7 +10,7 @@ ghost use Rattle.plai_modules.specs.Loading.{pred_spoken_of, with_clause_from, w
 
 use plai_clauses::{Check, Clause, ClauseFail, Entry, Imports, Program, spoken_of};
 use plai_sources::{Item, NumberedItem};
-use plai_terms::{Listed, Name, PredKey, ReadTerm};
+use plai_terms::{Name, PredKey, ReadTerm};
 use std::alloc::{AllocError, Global};
 
 /// The predicate that the module with these imports speaks of.
@@ -52,12 +52,12 @@ fn add_item(
     alloc: Global,
     module: &Name,
     imports: &Imports,
-    item: &Item,
+    item: Item,
     program: &mut Program,
 ) -> Result<(), AllocError>
     requires there { IsSome (module_in program.old.modules «module».now) }
-    requires item { IsWellFormedItem «module».now item.now }
-    ensures { OnOk result (program.new ≡ with_item «module».now imports.now program.old item.now) }
+    requires item { IsWellFormedItem «module».now item }
+    ensures { OnOk result (program.new ≡ with_item «module».now imports.now program.old item) }
 {
     match item {
         Item::UseModule(_, _) => Ok(()),
@@ -65,7 +65,7 @@ fn add_item(
             let entry = Entry {
                 module: module.copy(alloc)?,
                 pred: pred_spoken_of(alloc, module, imports, &entry.name, entry.arity)?,
-                pre: Listed::new(Vec::from_slice(alloc, entry.pre.as_slice())?),
+                pre: entry.pre,
             };
             program.add_entry(alloc, entry)
         }
@@ -74,29 +74,29 @@ fn add_item(
                 module: module.copy(alloc)?,
                 kind: check.kind,
                 pred: pred_spoken_of(alloc, module, imports, &check.name, check.arity)?,
-                pre: Listed::new(Vec::from_slice(alloc, check.pre.as_slice())?),
-                post: Listed::new(Vec::from_slice(alloc, check.post.as_slice())?),
+                pre: check.pre,
+                post: check.post,
             };
             program.add_check(alloc, check)
         }
-        Item::Clause(term) => add_clause(alloc, module, imports, term, program),
+        Item::Clause(term) => add_clause(alloc, module, imports, &term, program),
     }
 }
 
-/// Adds the items, in order.
+/// Adds the items, in order, and lets each go.
 pub(crate) fn add_items(
     alloc: Global,
     module: &Name,
     imports: &Imports,
-    items: &[NumberedItem],
+    items: Vec<NumberedItem>,
     program: &mut Program,
 ) -> Result<(), AllocError>
     requires there { IsSome (module_in program.old.modules «module».now) }
-    requires items { (numbered : NumberedItem) → IsIn numbered items.now → IsWellFormedItem «module».now numbered.item }
-    ensures { OnOk result (program.new ≡ with_items «module».now imports.now program.old items.now) }
+    requires items { (numbered : NumberedItem) → IsIn numbered items.items → IsWellFormedItem «module».now numbered.item }
+    ensures { OnOk result (program.new ≡ with_items «module».now imports.now program.old items.items) }
 {
     for numbered in items {
-        add_item(alloc, module, imports, &numbered.item, program)?;
+        add_item(alloc, module, imports, numbered.item, program)?;
     }
     Ok(())
 }

@@ -1,13 +1,15 @@
-//! Keys: a name and a number of arguments. Which of them a module exports, and for which it has clauses.
-ghost use Rattle.std.specs.Prelude.{◌≡◌, IfOk, option_map, codes};
-ghost use Rattle.std.specs.Option.{option_copied};
-ghost use Rattle.std.specs.List.{list_all};
-ghost use Rattle.plai_clauses.specs.ClauseOf.{two, two_arguments};
-ghost use Rattle.plai_modules.specs.Importing.{is_exported, has_key, head_of, is_clause_of, has_clause};
+//! Sets of keys: a name and a number of arguments.
+ghost use Rattle.std.specs.Prelude.{◌≡◌, ◌||◌, ℕ, List, IfOk, OnOk};
+ghost use Rattle.std.specs.List.{list_any};
+ghost use Rattle.plai_modules.specs.Importing.{is_exported};
+ghost use Rattle.plai_modules.specs.KeySets.{IsSetOf, same_key};
 
-use plai_sources::{Item, NumberedItem};
-use plai_terms::{Name, Term};
+use indexmap::IndexSet;
+use plai_terms::Name;
 use std::alloc::{AllocError, Global};
+
+/// Keys, each found at once.
+pub(crate) type KeySet = IndexSet<(Name, u32)>;
 
 /// Equal keys.
 pub(crate) fn copy_keys(alloc: Global, keys: &[(Name, u32)]) -> Result<Vec<(Name, u32)>, AllocError>
@@ -20,79 +22,26 @@ pub(crate) fn copy_keys(alloc: Global, keys: &[(Name, u32)]) -> Result<Vec<(Name
     Ok(copies)
 }
 
-fn is_exported(exports: &[(Name, u32)], key: &(Name, u32)) -> bool
-    ensures { result ≡ is_exported exports.now key.now }
+/// Puts an equal key into the set.
+pub(crate) fn add_key(
+    alloc: Global,
+    set: &mut KeySet,
+    name: &Name,
+    arity: u32,
+) -> Result<(), AllocError>
+    ensures { OnOk result ((key : List ℕ × ℕ) → list_any (same_key key) set.new.keys ≡ (list_any (same_key key) set.old.keys || same_key key (name.now, arity))) }
 {
-    exports
-        .iter()
-        .any(|export| export.0 == key.0 && export.1 == key.1)
+    set.insert((name.copy(alloc)?, arity))?;
+    Ok(())
 }
 
-/// Whether each of the keys is among the exports.
-pub(crate) fn are_exported(exports: &[(Name, u32)], keys: &[(Name, u32)]) -> bool
-    ensures { result ≡ list_all (is_exported exports.now) keys.now }
+/// The set of these keys.
+pub(crate) fn key_set(alloc: Global, keys: &[(Name, u32)]) -> Result<KeySet, AllocError>
+    ensures { IfOk result (λ set. IsSetOf (is_exported keys.now) set.keys) }
 {
-    keys.iter().all(|key| is_exported(exports, key))
-}
-
-fn has_key(key: &(Name, u32), term: &Term) -> bool
-    ensures { result ≡ has_key key.now term.now }
-{
-    match term {
-        Term::Atom(name) => key.0 == *name && key.1 == 0,
-        Term::Compound(name, args) => key.0 == *name && key.1 as usize == args.as_slice().len(),
-        Term::Var(_) | Term::Int(_) => false,
+    let mut set = IndexSet::new(alloc);
+    for key in keys {
+        add_key(alloc, &mut set, &key.0, key.1)?;
     }
-}
-
-fn first_of_two(args: &[Term]) -> Option<&Term>
-    ensures { option_copied result ≡ option_map (λ pair. pair.0) (two args.entry.now) }
-{
-    match args {
-        [first, _] => Some(first),
-        _ => None,
-    }
-}
-
-/// The head of a rule, `None` where the term is none.
-fn head_of_rule(term: &Term) -> Option<&Term>
-    ensures { option_copied result ≡ option_map (λ rule. rule.0) (two_arguments (codes ":-") term.entry.now) }
-{
-    match term {
-        Term::Compound(name, args) => {
-            if name.as_slice() == b":-".as_slice() {
-                first_of_two(args.as_slice())
-            } else {
-                None
-            }
-        }
-        _ => None,
-    }
-}
-
-fn head_of(term: &Term) -> &Term
-    ensures { result.now ≡ head_of term.entry.now }
-{
-    match head_of_rule(term) {
-        Some(head) => head,
-        None => term,
-    }
-}
-
-fn is_clause_of(key: &(Name, u32), item: &Item) -> bool
-    ensures { result ≡ is_clause_of key.now item.now }
-{
-    match item {
-        Item::Clause(read) => has_key(key, head_of(&read.term)),
-        _ => false,
-    }
-}
-
-/// Whether one of the items is a clause for the key.
-pub(crate) fn has_clause(items: &[NumberedItem], key: &(Name, u32)) -> bool
-    ensures { result ≡ has_clause items.now key.now }
-{
-    items
-        .iter()
-        .any(|numbered| is_clause_of(key, &numbered.item))
+    Ok(set)
 }

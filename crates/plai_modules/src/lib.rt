@@ -1,6 +1,7 @@
 //! Loads the modules of several files: reads the files, resolves what each module imports, and makes the program.
 #![tactic(auto)]
 
+mod exporter;
 mod fail;
 mod import;
 mod items;
@@ -9,11 +10,11 @@ mod laws;
 mod link;
 mod loading;
 mod named_text;
-#[cfg(test)]
-mod tests;
+mod own_items;
 
 pub use fail::LoadFail;
 pub use laws::{clauses_are_kept, imports_are_exported, named_keys_are_imported};
 pub use loading::load;
 pub use named_text::NamedText;
+pub use plai_base::Text;
 pub use plai_sources::LoadCause;

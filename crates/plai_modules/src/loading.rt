@@ -55,5 +55,5 @@ pub fn load(alloc: Global, files: &[NamedText]) -> Result<Program, LoadFail>
     ensures few { IfOk result (λ program. items_of program ≤ 65536) }
 {
     let read = read_files(alloc, files)?;
-    program_of(alloc, read.as_slice())
+    program_of(alloc, read.into_vec())
 }

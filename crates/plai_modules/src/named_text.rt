@@ -1,8 +1,9 @@
-use plai_terms::{Listed, Name};
+use plai_base::Text;
+use plai_terms::Listed;
 
-/// A file: its name, any bytes, and its own bytes, of which `load` takes fewer than 2^31.
+/// A file: its name, and its bytes, of which `load` takes fewer than 2^31.
 #[derive(Debug, Drop)]
 pub struct NamedText {
-    pub name: Name,
+    pub name: Text,
     pub text: Listed<u8>,
 }

@@ -10,8 +10,8 @@ use Rattle.plai_bdd.specs.declared.node.Node.{Node}
 use Rattle.plai_bdd.specs.Assignment.{Assignment, IsFree, with_slot}
 use Rattle.plai_bdd.specs.Nodes.{holds, is_model, IsCanonical, IsFunction, IsOver}
 use Rattle.plai_bdd.proofs.Depends.{holds-below}
-use Rattle.plai_assignments.specs.Assignments.{IsPositive}
-use Rattle.plai_assignments.proofs.Parts.{value_kept}
+use Rattle.plai_pos_laws.specs.Assignments.{IsPositive}
+use Rattle.plai_pos_laws.proofs.Parts.{value_kept}
 use Rattle.plai_pos.specs.Values.{models_of, IsDiagram, IsDiagramOf, IsPositiveBelow}
 
 -- where the function is true, it is true at each assignment that has the same first slots

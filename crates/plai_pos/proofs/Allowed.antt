@@ -13,9 +13,9 @@ use Rattle.plai_bdd.specs.declared.node.Node.{Node}
 use Rattle.plai_bdd.specs.Assignment.{Assignment}
 use Rattle.plai_bdd.specs.Slots.{conjunction}
 use Rattle.plai_bdd.specs.Nodes.{is_model, IsFunction, IsOver}
-use Rattle.plai_assignments.specs.Assignments.{argument_in, allows, allows_all, describe_of}
-use Rattle.plai_assignments.proofs.Parts.{all_of, all_from}
-use Rattle.plai_assignments.proofs.Properties.{value_describe}
+use Rattle.plai_pos_laws.specs.Assignments.{argument_in, allows, allows_all, describe_of}
+use Rattle.plai_pos_laws.proofs.Parts.{all_of, all_from}
+use Rattle.plai_pos_laws.proofs.Properties.{value_describe}
 use Rattle.plai_pos.specs.Values.{models_of, IsDiagramOf}
 use Rattle.plai_pos.specs.TermSlots.{allowed, allowed_all}
 use Rattle.plai_pos.proofs.Alike.{alike_as, diagram_of}

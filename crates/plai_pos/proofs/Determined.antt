@@ -12,12 +12,12 @@ use Rattle.plai_domain.specs.Instances.{all_below}
 use Rattle.plai_bdd.specs.Assignment.{Assignment}
 use Rattle.plai_bdd.specs.Slots.{conjunction}
 use Rattle.plai_bdd.proofs.Slots.{all_hold-Decides}
-use Rattle.plai_assignments.specs.Assignments.{holds, enter_of, call_of, back_of, exit_of}
-use Rattle.plai_assignments.specs.Truths.{pattern_of, enters}
-use Rattle.plai_assignments.proofs.Direct.{same_slots, below_whole}
-use Rattle.plai_assignments.proofs.Enter.{enter_is, pattern_of_lt}
-use Rattle.plai_assignments.proofs.Call.{call_is, back_is}
-use Rattle.plai_assignments.proofs.Parts.{all_of, all_from}
+use Rattle.plai_pos_laws.specs.Assignments.{holds, enter_of, call_of, back_of, exit_of}
+use Rattle.plai_pos_laws.specs.Truths.{pattern_of, enters}
+use Rattle.plai_pos_laws.proofs.Direct.{same_slots, below_whole}
+use Rattle.plai_pos_laws.proofs.Enter.{enter_is, pattern_of_lt}
+use Rattle.plai_pos_laws.proofs.Call.{call_is, back_is}
+use Rattle.plai_pos_laws.proofs.Parts.{all_of, all_from}
 use Rattle.plai_pos.specs.Values.{terms_at, image, preimage, determined}
 use Rattle.plai_pos.specs.TermSlots.{IsBelow, AreBelow, AreSlotsOf}
 use Rattle.plai_pos.proofs.Masks.{conjunction-alike}

@@ -4,11 +4,11 @@ use Rattle.plai_base.specs.Sets.{has}
 use Rattle.plai_base.proofs.Sets.{has_kept, kept_has, has-kept, kept_same}
 use Rattle.plai_bdd.specs.declared.node.Node.{Node}
 use Rattle.plai_bdd.specs.Nodes.{holds, is_model, IsFunction, IsOver}
-use Rattle.plai_bdd.specs.Product.{together}
-use Rattle.plai_assignments.specs.Assignments.{IsPositive, join_of}
-use Rattle.plai_assignments.specs.Groundness.{Leq}
-use Rattle.plai_assignments.proofs.Laws.{value_of_positive}
-use Rattle.plai_assignments.proofs.Order.{value_join}
+use Rattle.plai_factors.specs.Product.{together}
+use Rattle.plai_pos_laws.specs.Assignments.{IsPositive, join_of}
+use Rattle.plai_pos_laws.specs.Groundness.{Leq}
+use Rattle.plai_pos_laws.proofs.Laws.{value_of_positive}
+use Rattle.plai_pos_laws.proofs.Order.{value_join}
 use Rattle.plai_pos.specs.declared.value.Value.{Value}
 use Rattle.plai_pos.specs.declared.value.State.{State}
 use Rattle.plai_pos.specs.Values.{value_of, models_of, IsDiagram, IsDiagramOf, IsPositiveBelow}

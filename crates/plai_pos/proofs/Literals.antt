@@ -1,25 +1,24 @@
 -- What is known of terms from what is known of their variables, and the other way round, as diagrams.
-use Rattle.std.proofs.Common.{◌≡◌, ◌≢◌, ℕ, zero, suc, ◌+◌, ◌-◌, ◌^◌, ◌<◌, ◌≤◌, Bool, true, false, true≢false, nat_eq, ◌&&◌, ◌↔◌, IsTrue, List, [], ◌∷◌, ◌++◌, length, get_or, ◌⊎◌, inl, inr, refl, sym, ap, subst, ◌∙◌, arith}
+use Rattle.std.proofs.Common.{◌≡◌, ℕ, ◌+◌, ◌-◌, ◌^◌, ◌<◌, ◌≤◌, Bool, true, nat_eq, ◌&&◌, ◌↔◌, IsTrue, List, [], ◌∷◌, ◌++◌, length, get_or, ◌⊎◌, inl, inr, sym, ap, subst, ◌∙◌, arith}
 use Rattle.std.specs.Bool.{beq}
 use Rattle.std.proofs.lemmas.Bool.{eq-eqb, eqb-true, and_parts, and_from}
-use Rattle.plai_base.specs.Mask.{has_slot, mask_of, all_true}
+use Rattle.plai_base.specs.Mask.{has_slot, all_true}
 use Rattle.plai_base.specs.Sets.{has, has_some}
 use Rattle.plai_base.proofs.Sets.{same_tests, has_kept, kept_has, kept_same, some_from, some_of}
 use Rattle.plai_base.proofs.Bits.{top_lt}
 use Rattle.plai_bdd.specs.declared.node.Node.{Node}
-use Rattle.plai_bdd.specs.Assignment.{Assignment, with_slot}
-use Rattle.plai_bdd.specs.Slots.{Somewhere, DifferWithin, conjunction}
+use Rattle.plai_bdd.specs.Assignment.{Assignment}
+use Rattle.plai_bdd.specs.Slots.{Somewhere, conjunction}
 use Rattle.plai_bdd.specs.Nodes.{IsCanonical, IsFunction, is_model, holds as answer}
-use Rattle.plai_bdd.specs.Product.{together}
-use Rattle.plai_bdd.proofs.Products.{together-push}
-use Rattle.plai_bdd.proofs.Trees.{with_slot_same}
+use Rattle.plai_factors.specs.Product.{together}
+use Rattle.plai_factors.proofs.Products.{together-push}
 use Rattle.plai_bdd.proofs.Models.{mask_below, mask_below-lt, mask_below-slot}
-use Rattle.plai_assignments.proofs.Direct.{same_slots}
-use Rattle.plai_assignments.proofs.Parts.{value_kept}
+use Rattle.plai_pos_laws.proofs.Direct.{same_slots}
+use Rattle.plai_pos_laws.proofs.Parts.{value_kept}
 use Rattle.plai_pos.specs.Values.{models_of, models_in, terms_at, image, preimage, IsDiagram, IsDiagramOf, IsPositiveBelow}
 use Rattle.plai_pos.specs.TermSlots.{AreBelow, AreUnified}
-use Rattle.plai_pos.proofs.Alike.{TrueAlike, alike_of, diagram_of, other_slot, spliced, spliced_low, spliced_high, below_or_from}
-use Rattle.plai_pos.proofs.Masks.{IsRange, only_slot, own_slot, conjunction-alike}
+use Rattle.plai_pos.proofs.Alike.{TrueAlike, alike_of, diagram_of, spliced, spliced_low, spliced_high, below_or_from}
+use Rattle.plai_pos.proofs.Masks.{IsRange}
 use Rattle.plai_pos.proofs.Determined.{conjunction_below, slot_at, terms_lt, top_terms}
 use Rattle.plai_pos.proofs.Terms.{beq_same, same_beq, last_or}
 

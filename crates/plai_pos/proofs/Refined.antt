@@ -16,17 +16,17 @@ use Rattle.plai_domain.specs.declared.action.Action.TheVariants as action
 use Rattle.plai_bdd.specs.declared.node.Node.{Node}
 use Rattle.plai_bdd.specs.Assignment.{Assignment}
 use Rattle.plai_bdd.specs.Nodes.{IsFunction, is_model, holds as answer}
-use Rattle.plai_bdd.specs.Product.{together}
+use Rattle.plai_factors.specs.Product.{together}
 use Rattle.plai_bdd.specs.Slots.{Somewhere}
 use Rattle.plai_bdd.proofs.Functions.{IsFunction-as}
 use Rattle.plai_bdd.proofs.Models.{mask_below, mask_below-lt, mask_below-slot}
-use Rattle.plai_bdd.proofs.Products.{together-push}
-use Rattle.plai_assignments.specs.Assignments.{agree, holds, variable_in, variable_step, variable_at, if_variable, acted, refine_of}
-use Rattle.plai_assignments.specs.Groundness.{state_with, state_from}
-use Rattle.plai_assignments.proofs.Actions.{variable_of-Var, variable_at_is}
-use Rattle.plai_assignments.proofs.Call.{both_is, truth_kept}
-use Rattle.plai_assignments.proofs.Holds.{holds_same}
-use Rattle.plai_assignments.proofs.Parts.{agree_true, all_of, all_from, top_holds}
+use Rattle.plai_factors.proofs.Products.{together-push}
+use Rattle.plai_pos_laws.specs.Assignments.{agree, holds, variable_in, variable_step, variable_at, if_variable, acted, refine_of}
+use Rattle.plai_pos_laws.specs.Groundness.{state_with, state_from}
+use Rattle.plai_pos_laws.proofs.Actions.{variable_of-Var, variable_at_is}
+use Rattle.plai_pos_laws.proofs.Call.{both_is, truth_kept}
+use Rattle.plai_pos_laws.proofs.Holds.{holds_same}
+use Rattle.plai_pos_laws.proofs.Parts.{agree_true, all_of, all_from, top_holds}
 use Rattle.plai_pos.specs.Values.{models_in, terms_at, determined, IsPositiveBelow}
 use Rattle.plai_pos.proofs.Determined.{all_whole, filter_whole}
 use Rattle.plai_pos.proofs.Literals.{range_projects}

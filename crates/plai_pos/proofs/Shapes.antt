@@ -4,7 +4,7 @@ use Rattle.plai_terms.specs.declared.abs.Abs.{Abs}
 use Rattle.plai_terms.specs.declared.prop.Prop.{Prop}
 use Rattle.plai_domain.specs.Instances.{speaks_within}
 use Rattle.plai_domain.specs.Conditions.{AreAlike, SpeaksOf}
-use Rattle.plai_assignments.specs.Groundness.{arity_of, Leq, groundness}
+use Rattle.plai_pos_laws.specs.Groundness.{arity_of, Leq, groundness}
 
 pub arity_is : (n : ℕ) (a b : Abs) → Leq n a b → arity_of a ≡ n
 arity_is n a b h = ap arity_of h.first_is

@@ -1,20 +1,18 @@
 -- Terms and their slots, assignment by assignment.
-use Rattle.std.proofs.Common.{◌≡◌, ℕ, zero, suc, ◌+◌, ◌<◌, ◌≤◌, Bool, true, false, true≢false, nat_lt, ◌&&◌, bit_or, IsTrue, List, [], ◌∷◌, ◌++◌, ◌↔◌, length, get_or, ◌⊎◌, inl, inr, refl, sym, ap, subst, ◌∙◌, arith, rules}
+use Rattle.std.proofs.Common.{◌≡◌, ℕ, zero, suc, ◌+◌, ◌<◌, ◌≤◌, Bool, true, false, true≢false, nat_lt, ◌&&◌, bit_or, IsTrue, List, [], ◌∷◌, ◌++◌, length, get_or, ◌⊎◌, inl, inr, refl, sym, ap, subst, ◌∙◌, arith, rules}
 use Rattle.std.specs.Bool.{beq}
 use Rattle.std.proofs.Math.ListN.{get_or-append}
 use Rattle.std.proofs.Math.Seq.{get_or-append_seam}
 use Rattle.std.proofs.lemmas.List.{length-append}
-use Rattle.std.proofs.lemmas.Bool.{ltb-true, and_parts, and_from}
+use Rattle.std.proofs.lemmas.Bool.{ltb-true, and_parts}
 use Rattle.plai_base.specs.Mask.{has_slot, mask_of}
 use Rattle.plai_terms.specs.declared.term.Term.{Term, Var, the_lemmas}
 use Rattle.plai_terms.specs.Term.{has_variables_below}
 use Rattle.plai_domain.specs.Instances.{all_below}
-use Rattle.plai_bdd.specs.declared.node.Node.{Node}
 use Rattle.plai_bdd.specs.Assignment.{Assignment}
-use Rattle.plai_bdd.specs.Slots.{conjunction, Somewhere, DifferWithin}
-use Rattle.plai_bdd.specs.Nodes.{IsCanonical, IsFunction, holds as answer}
-use Rattle.plai_assignments.specs.Assignments.{agree, holds}
-use Rattle.plai_assignments.proofs.Holds.{holds-Var}
+use Rattle.plai_bdd.specs.Slots.{conjunction}
+use Rattle.plai_pos_laws.specs.Assignments.{agree, holds}
+use Rattle.plai_pos_laws.proofs.Holds.{holds-Var}
 use Rattle.plai_pos.specs.TermSlots.{IsBelow, AreSlotsOf}
 use Rattle.plai_pos.proofs.Masks.{no_slots, slot_or, conjunction-insert, conjunction-none}
 

@@ -8,7 +8,7 @@ use Rattle.plai_bdd.specs.Nodes.{is_model}
 use Rattle.plai_bdd.proofs.Models.{same_models}
 use Rattle.plai_bdd.proofs.Same.{node_equal, lists_decided}
 use Rattle.plai_terms.specs.declared.abs.Abs.TheVariants.{Pos}
-use Rattle.plai_assignments.specs.Groundness.{masks_of, arity_of}
+use Rattle.plai_pos_laws.specs.Groundness.{masks_of, arity_of}
 use Rattle.plai_pos.specs.declared.value.Value.{Value}
 use Rattle.plai_pos.specs.Values.{value_of, models_of}
 

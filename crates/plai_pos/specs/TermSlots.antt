@@ -1,15 +1,13 @@
 -- Terms and the slots of their variables, for groundness: a term is true exactly where all its variables are
 -- (Marriott and Sondergaard 1993). Variable v is slot v.
-use Rattle.std.specs.Prelude.{◌≡◌, ℕ, ◌+◌, ◌-◌, ◌<◌, Bool, true, length, ◌&&◌, ◌↔◌, IsTrue, List, [], ◌∷◌, get_or}
-use Rattle.plai_base.specs.Mask.{has_slot, mask_of}
+use Rattle.std.specs.Prelude.{◌≡◌, ℕ, ◌+◌, ◌-◌, ◌<◌, Bool, true, length, ◌&&◌, IsTrue, List, [], ◌∷◌, get_or}
+use Rattle.plai_base.specs.Mask.{has_slot}
 use Rattle.plai_terms.specs.declared.term.Term.{Term, Var}
 use Rattle.plai_terms.specs.declared.prop.Prop.{Prop}
 use Rattle.plai_terms.specs.declared.prop.Prop.TheVariants as property
-use Rattle.plai_bdd.specs.declared.node.Node.{Node}
 use Rattle.plai_bdd.specs.Assignment.{Assignment}
-use Rattle.plai_bdd.specs.Nodes.{IsCanonical, holds as answer}
-use Rattle.plai_bdd.specs.Slots.{DifferWithin, conjunction}
-use Rattle.plai_assignments.specs.Assignments.{holds}
+use Rattle.plai_bdd.specs.Slots.{conjunction}
+use Rattle.plai_pos_laws.specs.Assignments.{holds}
 
 -- the slots of the set are below v
 abbrev pub IsBelow : ℕ → ℕ → Type 0

@@ -6,12 +6,12 @@ use Rattle.plai_base.specs.Sets.{has, has_some, kept}
 use Rattle.plai_bdd.specs.declared.node.Node.{Node}
 use Rattle.plai_bdd.specs.Assignment.{Assignment}
 use Rattle.plai_bdd.specs.Nodes.{IsCanonical, IsOver, is_model}
-use Rattle.plai_bdd.specs.Product.{together}
+use Rattle.plai_factors.specs.Product.{together}
 use Rattle.plai_bdd.specs.Slots.{conjunction}
 use Rattle.plai_terms.specs.declared.abs.Abs.{Abs}
 use Rattle.plai_terms.specs.declared.abs.Abs.TheVariants.{Pos}
 use Rattle.plai_domain.specs.Plain.{StateView}
-use Rattle.plai_assignments.specs.Groundness.{state_with}
+use Rattle.plai_pos_laws.specs.Groundness.{state_with}
 use Rattle.plai_pos.specs.declared.value.Value.{Value}
 use Rattle.plai_pos.specs.declared.value.State.{State}
 

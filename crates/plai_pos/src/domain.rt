@@ -2,7 +2,7 @@ ghost use Rattle.std.specs.Prelude.{◌≡◌, ◌+◌, ◌≤◌, ◌↔◌, �
 ghost use Rattle.std.specs.Option.{option_map};
 ghost use Rattle.plai_terms.specs.Pattern.{pattern_text};
 ghost use Rattle.plai_domain.specs.Instances.{speaks_within, all_below, acts_within};
-ghost use Rattle.plai_assignments.specs.Groundness.{arity_of, groundness};
+ghost use Rattle.plai_pos_laws.specs.Groundness.{arity_of, groundness};
 ghost use Rattle.plai_pos.specs.Values.{value_of, state_of};
 
 use crate::value::{State, Value};

@@ -8,10 +8,10 @@ use std::sync::ledger::Ledger;
 
 impl Domain for Ground {
     ghost use Rattle.std.specs.Prelude.{refl};
-    ghost use Rattle.plai_assignments.specs.Groundness.{groundness};
-    ghost use Rattle.plai_assignments.proofs.Lawful.{groundness_lawful};
-    ghost use Rattle.plai_assignments.proofs.Acts.{groundness_sound};
-    ghost use Rattle.plai_assignments.proofs.Printed.{groundness_printed};
+    ghost use Rattle.plai_pos_laws.specs.Groundness.{groundness};
+    ghost use Rattle.plai_pos_laws.proofs.Lawful.{groundness_lawful};
+    ghost use Rattle.plai_pos_laws.proofs.Acts.{groundness_sound};
+    ghost use Rattle.plai_pos_laws.proofs.Printed.{groundness_printed};
     ghost use Rattle.plai_pos.specs.Values.{value_of as pattern_of, state_of as view_of};
     ghost use Rattle.plai_pos.specs.Equality.{same_value};
 

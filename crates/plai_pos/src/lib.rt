@@ -8,8 +8,6 @@ mod literal;
 mod properties;
 mod refine;
 mod slots;
-#[cfg(test)]
-mod tests;
 mod value;
 
 pub use domain::Ground;

@@ -1,16 +1,17 @@
 ghost use Rattle.std.specs.Prelude.{◌≡◌, ◌+◌, ◌≤◌, ◌<◌, ◌↔◌, true, length, IsTrue, IfOk};
 ghost use Rattle.plai_domain.specs.Instances.{all_below};
-ghost use Rattle.plai_assignments.specs.Assignments.{enter_of, call_of, back_of, exit_of};
-ghost use Rattle.plai_assignments.specs.Groundness.{state_with};
+ghost use Rattle.plai_pos_laws.specs.Assignments.{enter_of, call_of, back_of, exit_of};
+ghost use Rattle.plai_pos_laws.specs.Groundness.{state_with};
 ghost use Rattle.plai_bdd.specs.Assignment.{Assignment};
-ghost use Rattle.plai_bdd.specs.Product.{together};
+ghost use Rattle.plai_factors.specs.Product.{together};
 ghost use Rattle.plai_pos.specs.Values.{models_of, models_in, image, preimage, assignments_of, state_of, IsDiagram, IsDiagramOf, IsPositiveBelow};
 ghost use Rattle.plai_pos.specs.TermSlots.{AreBelow, AreUnified};
 
 use crate::slots::{slots_from, slots_of};
-use crate::value::{State, Value, copies};
+use crate::value::{State, Value};
 use plai_base::Mask;
 use plai_bdd::Bdd;
+use plai_factors::{Factor, and_exists, share_all, with_function};
 use plai_terms::Term;
 use std::alloc::{AllocError, Global};
 
@@ -18,31 +19,32 @@ use std::alloc::{AllocError, Global};
 /// the set are.
 fn with_terms(
     alloc: Global,
-    functions: Vec<Bdd>,
+    functions: Vec<Factor>,
     sets: &[Mask],
     end: u32,
-) -> Result<Vec<Bdd>, AllocError>
+) -> Result<Vec<Factor>, AllocError>
     requires { end + length sets.now ≤ 64 }
     ensures { IfOk result (λ all. (at : Assignment) → IsTrue (together all.items at)
         ↔ (IsTrue (together functions.items at) × AreUnified end sets.now at)) }
 {
     let mut all = functions;
     for (place, set) in sets.iter().enumerate() {
-        all.push(Bdd::iff_all(alloc, end + place as u32, *set)?)?;
+        let unified = Bdd::iff_all(alloc, end + place as u32, *set)?;
+        all.push(Factor::new(alloc, unified)?)?;
     }
     Ok(all)
 }
 
 /// What is known of terms, where the functions say what is known of their variables, the slots before `end`, and each set has
 /// the slots of a term's variables. The variables go one by one, and only the functions with a variable that goes are joined.
-fn image(alloc: Global, functions: Vec<Bdd>, sets: &[Mask], end: u32) -> Result<Bdd, AllocError>
+fn image(alloc: Global, functions: Vec<Factor>, sets: &[Mask], end: u32) -> Result<Bdd, AllocError>
     requires slots { end + length sets.now ≤ 64 }
     requires below { AreBelow end sets.now }
     requires functions { IsPositiveBelow end (together functions.items) }
     ensures { IfOk result (λ b. IsDiagramOf (length sets.now) (image sets.now (models_in end (together functions.items))) b) }
 {
     let unified = with_terms(alloc, functions, sets, end)?;
-    let known = Bdd::and_exists(alloc, unified, slots_from(0, end))?;
+    let known = and_exists(alloc, unified, slots_from(0, end))?;
     known.shift_down(alloc, end)
 }
 
@@ -54,9 +56,10 @@ fn preimage(alloc: Global, function: &Bdd, sets: &[Mask], end: u32) -> Result<Bd
     requires function { IsDiagram (length sets.now) function.now }
     ensures { IfOk result (λ b. IsDiagramOf end (preimage end sets.now (models_of (length sets.now) function.now)) b) }
 {
-    let raised = vec![in alloc; function.shift_up(alloc, end)?]?;
+    let raised = function.shift_up(alloc, end)?;
+    let raised = vec![in alloc; Factor::new(alloc, raised)?]?;
     let unified = with_terms(alloc, raised, sets, end)?;
-    Bdd::and_exists(alloc, unified, slots_from(end, end + sets.len() as u32))
+    and_exists(alloc, unified, slots_from(end, end + sets.len() as u32))
 }
 
 /// What is known of a clause's arguments and variables as it begins: the call, and each argument unified with the head's.
@@ -74,11 +77,12 @@ pub(crate) fn enter(
 {
     let sets = slots_of(alloc, head, variables)?;
     let diagram = preimage(alloc, &call.diagram, sets.as_slice(), variables)?;
+    let factors = with_function(alloc, Vec::new(alloc), diagram)?;
     Ok(State {
         arity: call.arity,
         variables,
         sets,
-        factors: vec![in alloc; diagram]?,
+        factors,
     })
 }
 
@@ -90,7 +94,7 @@ pub(crate) fn call(alloc: Global, state: &State, args: &[Term]) -> Result<Bdd, A
         (call_of state.now.arity state.now.variables args.now (assignments_of state.now)) b) }
 {
     let sets = slots_of(alloc, args, state.variables)?;
-    let factors = copies(alloc, state.factors.as_slice())?;
+    let factors = share_all(alloc, state.factors.as_slice())?;
     image(alloc, factors, sets.as_slice(), state.variables)
 }
 
@@ -111,13 +115,13 @@ pub(crate) fn back(
 {
     let sets = slots_of(alloc, args, state.variables)?;
     let known = preimage(alloc, &answer.diagram, sets.as_slice(), state.variables)?;
-    state.with_factor(alloc, known)
+    state.with_function(alloc, known)
 }
 
 /// What is known of the head's arguments.
 pub(crate) fn exit(alloc: Global, state: &State) -> Result<Bdd, AllocError>
     ensures { IfOk result (λ b. IsDiagramOf state.now.arity (exit_of state.now.arity (assignments_of state.now)) b) }
 {
-    let factors = copies(alloc, state.factors.as_slice())?;
+    let factors = share_all(alloc, state.factors.as_slice())?;
     image(alloc, factors, state.sets.as_slice(), state.variables)
 }

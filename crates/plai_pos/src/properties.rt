@@ -1,7 +1,7 @@
 ghost use Rattle.std.specs.Prelude.{◌≡◌, ◌≤◌, ◌||◌, ◌&&◌, ℕ, All, IfOk};
 ghost use Rattle.plai_base.specs.Sets.{has_all};
 ghost use Rattle.plai_domain.specs.Instances.{speaks_within};
-ghost use Rattle.plai_assignments.specs.Assignments.{argument_in, describe_of, entails_of, excludes_of};
+ghost use Rattle.plai_pos_laws.specs.Assignments.{argument_in, describe_of, entails_of, excludes_of};
 ghost use Rattle.plai_bdd.specs.Assignment.{Assignment};
 ghost use Rattle.plai_bdd.specs.Slots.{conjunction};
 ghost use Rattle.plai_pos.specs.Values.{models_of, IsDiagramOf};

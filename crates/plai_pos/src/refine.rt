@@ -6,16 +6,17 @@ ghost use Rattle.plai_terms.specs.Term.{has_variables_below};
 ghost use Rattle.plai_terms.specs.declared.term.Term.{fold-Term};
 ghost use Rattle.plai_domain.specs.Instances.{all_below, acts_within};
 ghost use Rattle.plai_bdd.specs.Nodes.{IsFunction};
-ghost use Rattle.plai_assignments.specs.Assignments.{agree, acted, holds, if_variable, variable_at, variable_step};
-ghost use Rattle.plai_assignments.specs.Groundness.{state_with, state_from, groundness};
-ghost use Rattle.plai_bdd.specs.Product.{together};
+ghost use Rattle.plai_pos_laws.specs.Assignments.{agree, acted, holds, if_variable, variable_at, variable_step};
+ghost use Rattle.plai_pos_laws.specs.Groundness.{state_with, state_from, groundness};
+ghost use Rattle.plai_factors.specs.Product.{together};
 ghost use Rattle.plai_pos.specs.Values.{state_of, assignments_of, models_in};
 
 use crate::slots::{slots_from, with_variables};
-use crate::value::{State, copies};
+use crate::value::State;
 use plai_base::Mask;
 use plai_bdd::Bdd;
 use plai_domain::Action;
+use plai_factors::{Factor, and_exists, share_all};
 use plai_terms::Term;
 use std::alloc::{AllocError, Global};
 
@@ -59,7 +60,7 @@ fn agreed(
     let first = &args[left as usize - 1];
     let second = &args[right as usize - 1];
     let same = agreeing(alloc, first, second, state.variables)?;
-    state.with_factor(alloc, same)
+    state.with_function(alloc, same)
 }
 
 /// Keeps the assignments under which the argument is true.
@@ -78,7 +79,7 @@ fn satisfied(
 {
     let term = &args[argument as usize - 1];
     let all = truth(alloc, term, state.variables)?;
-    state.with_factor(alloc, all)
+    state.with_function(alloc, all)
 }
 
 /// The function that the variable is false.
@@ -96,9 +97,10 @@ fn may_be_false(alloc: Global, state: &State, variable: u32) -> Result<bool, All
     requires { variable < state.now.variables }
     ensures { IfOk result (λ may. may ≡ not (has_all (models_in state.now.variables (together state.now.factors.items)) (λ y. has_slot y variable))) }
 {
-    let mut functions = copies(alloc, state.factors.as_slice())?;
-    functions.push(not_variable(alloc, variable)?)?;
-    let some = Bdd::and_exists(alloc, functions, slots_from(0, state.variables))?;
+    let mut factors = share_all(alloc, state.factors.as_slice())?;
+    let never = not_variable(alloc, variable)?;
+    factors.push(Factor::new(alloc, never)?)?;
+    let some = and_exists(alloc, factors, slots_from(0, state.variables))?;
     Ok(some.is_model(Mask::empty()))
 }
 

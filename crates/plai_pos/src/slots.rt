@@ -4,7 +4,7 @@ ghost use Rattle.plai_base.specs.Mask.{has_slot};
 ghost use Rattle.plai_terms.specs.Term.{has_variables_below};
 ghost use Rattle.plai_bdd.specs.Assignment.{Assignment};
 ghost use Rattle.plai_bdd.specs.Slots.{conjunction};
-ghost use Rattle.plai_assignments.specs.Assignments.{holds};
+ghost use Rattle.plai_pos_laws.specs.Assignments.{holds};
 ghost use Rattle.plai_pos.specs.TermSlots.{IsBelow, AreSlotsOf};
 
 use plai_base::Mask;

@@ -2,12 +2,13 @@ ghost use Rattle.std.specs.Prelude.{◌≡◌, ◌≤◌, ◌<◌, ◌+◌, ℕ,
 ghost use Rattle.plai_base.specs.Mask.{all_true, has_slot};
 ghost use Rattle.plai_bdd.specs.Assignment.{Assignment};
 ghost use Rattle.plai_bdd.specs.Nodes.{IsCanonical, IsOver, is_model};
-ghost use Rattle.plai_bdd.specs.Product.{together};
+ghost use Rattle.plai_factors.specs.Product.{together};
 ghost use Rattle.plai_bdd.specs.Props.{IsCanonical-prop};
 ghost use Rattle.plai_pos.specs.TermSlots.{AreBelow};
 
 use plai_base::Mask;
 use plai_bdd::Bdd;
+use plai_factors::{Factor, share_all, with_function};
 use std::alloc::{AllocError, Global};
 
 /// What is known of the arguments of a call or an answer: a Boolean function of them that is true where all are. Argument
@@ -25,13 +26,13 @@ pub struct Value {
 /// What is known of a clause's head arguments and variables, at a place of the clause: a Boolean function of the variables,
 /// variable `v` being slot `v`, that is true where all are, and for each argument the set of its variables' slots. An
 /// argument is true exactly where all slots of its set are. The function is kept as factors, all of which are true where it
-/// is, so that it is small though it may be over many variables.
+/// is, so that it is small though it may be over many variables. States share their factors.
 #[derive(Drop)]
 pub struct State {
     pub(crate) arity: u32,
     pub(crate) variables: u32,
     pub(crate) sets: Vec<Mask>,
-    pub(crate) factors: Vec<Bdd>,
+    pub(crate) factors: Vec<Factor>,
     pub ghost small: { arity ≤ 16 },
     pub ghost slots: { arity + variables ≤ 64 },
     pub ghost size: { length sets.items ≡ arity },
@@ -41,25 +42,14 @@ pub struct State {
     pub ghost top: { together factors.items (has_slot (all_true variables)) ≡ true },
 }
 
-/// Equal functions.
-pub(crate) fn copies(alloc: Global, functions: &[Bdd]) -> Result<Vec<Bdd>, AllocError>
-    ensures { IfOk result (λ all. all.items ≡ functions.now) }
-{
-    let mut all = Vec::new(alloc);
-    for function in functions {
-        all.push(function.copy(alloc)?)?;
-    }
-    Ok(all)
-}
-
 impl State {
     ghost use Rattle.std.specs.Prelude.{filter};
     ghost use Rattle.plai_bdd.specs.Nodes.{holds};
-    ghost use Rattle.plai_assignments.specs.Groundness.{state_with};
+    ghost use Rattle.plai_pos_laws.specs.Groundness.{state_with};
     ghost use Rattle.plai_pos.specs.Values.{state_of, IsPositiveBelow, models_in, determined};
 
     /// The state at another place of the same clause, with these factors.
-    fn with_factors(&self, alloc: Global, factors: Vec<Bdd>) -> Result<State, AllocError>
+    fn with_factors(&self, alloc: Global, factors: Vec<Factor>) -> Result<State, AllocError>
         requires { IsPositiveBelow self.now.variables (together factors.items) }
         ensures { IfOk result (λ next. state_of next ≡ state_with self.now.arity self.now.variables
             (determined self.now.arity self.now.variables self.now.sets.items (models_in self.now.variables (together factors.items)))) }
@@ -77,19 +67,19 @@ impl State {
     pub(crate) fn copy(&self, alloc: Global) -> Result<State, AllocError>
         ensures { IfOk result (λ next. state_of next ≡ state_of self.now) }
     {
-        let factors = copies(alloc, self.factors.as_slice())?;
+        let factors = share_all(alloc, self.factors.as_slice())?;
         self.with_factors(alloc, factors)
     }
 
     /// The state where this function is true as well.
-    pub(crate) fn with_factor(&self, alloc: Global, factor: Bdd) -> Result<State, AllocError>
-        requires { IsPositiveBelow self.now.variables (holds factor) }
+    pub(crate) fn with_function(&self, alloc: Global, function: Bdd) -> Result<State, AllocError>
+        requires { IsPositiveBelow self.now.variables (holds function) }
         ensures { IfOk result (λ next. state_of next ≡ state_with self.now.arity self.now.variables
             (determined self.now.arity self.now.variables self.now.sets.items
-            (filter (λ y. holds factor (has_slot y)) (models_in self.now.variables (together self.now.factors.items))))) }
+            (filter (λ y. holds function (has_slot y)) (models_in self.now.variables (together self.now.factors.items))))) }
     {
-        let mut factors = copies(alloc, self.factors.as_slice())?;
-        factors.push(factor)?;
+        let factors = share_all(alloc, self.factors.as_slice())?;
+        let factors = with_function(alloc, factors, function)?;
         self.with_factors(alloc, factors)
     }
 }

@@ -18,8 +18,6 @@ mod variables;
 
 pub use fail::{OpFail, ReadTermFail};
 pub use operator::OpKind;
+pub use plai_terms::ReadTerm;
 pub use read::read_term;
 pub use table::OpTable;
-
-#[cfg(test)]
-mod tests;

@@ -14,6 +14,3 @@ pub use order::{sort_rows, sort_texts};
 pub use plai_terms::PlainRow;
 pub use stopped::render_stopped;
 pub use text_row::TextRow;
-
-#[cfg(test)]
-mod tests;

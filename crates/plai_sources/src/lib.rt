@@ -16,6 +16,3 @@ mod text;
 pub use cause::{ItemsFail, LoadCause};
 pub use items::{CheckItem, EntryItem, FileItems, Item, NumberedItem};
 pub use text::read_items;
-
-#[cfg(test)]
-mod tests;

@@ -48,6 +48,3 @@ pub use solve::unify;
 pub use subst::Subst;
 pub use term::{Args, Term};
 pub use unifiers::unifiers_are_most_general;
-
-#[cfg(test)]
-mod tests;

@@ -14,6 +14,8 @@ use Rattle.plai_top.specs.Loadings.{IsLoading, IsPrepared}
 use Rattle.plai_top.specs.Outcome.{Outcome, silent, refused_by, IsByWords, IsEarly, by_words, too_long, refused, unbuilt, IsAnalysed, IsOutcome, early, scripted, analysed}
 use Rattle.plai_top.specs.Outputs.{outcome_of, KeepsWords, KeepsEarly}
 use Rattle.plai_top.specs.Stops.{status_of, IsReadEnd}
+use Rattle.plai_top.specs.Tasks.{domain_of, task_of}
+use Rattle.plai_top.specs.declared.task.Task.{Task}
 use Rattle.plai_top.specs.Told.{IfBothTold}
 use Rattle.plai_top.specs.declared.loading.Loading.{Loading}
 use Rattle.plai_top.specs.declared.loading.Loading.TheVariants.{Program, Refused}
@@ -72,7 +74,7 @@ module _ (words : List (List ℕ)) (settings : Settings) (command : IsCommand wo
 
     program_prepares : (told : Option TextMap) (loading : Loading) → IfSome told (λ files. texts ≡ texts_of files settings.files)
         → IfSome told (λ files. AreShort files settings.files) → IsLoading names texts loading
-        → IfSome told (λ files. IsPrepared words files settings.rows loading)
+        → IfSome told (λ files. IsPrepared words files (task_of settings) loading)
     program_prepares None loading are short loads = tt
     program_prepares (Some files) (Program program) are short (loads, holds) =
         (settings, refl, record { given = record { command = command; short = short }; loads = sym (ap loaded are) ∙ loads }, holds)
@@ -103,7 +105,7 @@ module _ (words : List (List ℕ)) (settings : Settings) (command : IsCommand wo
 
     -- loading made a program or a line
     pub loading_prepares : (loading : Loading) → IsLoading (map (λ f. f.name) given) (map (λ f. f.text) given) loading
-        → IfSome told (λ files. IsPrepared words files settings.rows loading)
+        → IfSome told (λ files. IsPrepared words files (task_of settings) loading)
     loading_prepares loading loads = program_prepares (map (λ f. f.name) given) (map (λ f. f.text) given) own_names told loading own_texts own_short loads
 
 -- ---- the outcomes
@@ -122,14 +124,14 @@ stop_outcome words (Some files) None stop ends = tt
 stop_outcome words (Some files) (Some text) stop (inl read) = inl read
 stop_outcome words (Some files) (Some text) stop (inr is) = inr (early _ is)
 
-module _ (words : List (List ℕ)) (told : Option TextMap) (prepared : Prepared) (has : IfSome told (λ files. IsPrepared words files prepared.rows prepared.loading)) where
-  pub as_program : (rows : ℕ) (program : ProgramView) → prepared.rows ≡ rows → prepared.loading ≡ Program program
-      → IfSome told (λ files. IsPrepared words files rows (Program program))
-  as_program rows program limit is =
-      subst (λ n. IfSome told (λ files. IsPrepared words files n (Program program))) limit (subst (λ l. IfSome told (λ files. IsPrepared words files prepared.rows l)) is has)
+module _ (words : List (List ℕ)) (told : Option TextMap) (prepared : Prepared) (has : IfSome told (λ files. IsPrepared words files prepared.task prepared.loading)) where
+  pub as_program : (task : Task) (program : ProgramView) → prepared.task ≡ task → prepared.loading ≡ Program program
+      → IfSome told (λ files. IsPrepared words files task (Program program))
+  as_program task program same is =
+      subst (λ t. IfSome told (λ files. IsPrepared words files t (Program program))) same (subst (λ l. IfSome told (λ files. IsPrepared words files prepared.task l)) is has)
 
   pub as_line : (line : Vec ℕ Global) → prepared.loading ≡ Refused line → IfSome told (λ files. IsEarly words files (record { status = 3; bytes = line.items }))
-  as_line line is = subst (λ l. IfSome told (λ files. IsPrepared words files prepared.rows l)) is has
+  as_line line is = subst (λ l. IfSome told (λ files. IsPrepared words files prepared.task l)) is has
 
 -- a line of a refusal
 pub line_outcome : (words : List (List ℕ)) (told : Option TextMap) (left : Option (List ℕ)) (outcome : Outcome)
@@ -138,9 +140,9 @@ line_outcome words None left outcome is = tt
 line_outcome words (Some files) None outcome is = tt
 line_outcome words (Some files) (Some text) outcome is = early _ is
 
-module _ (words : List (List ℕ)) (rows : ℕ) (program : ProgramView) where
+module _ (words : List (List ℕ)) (task : Task) (program : ProgramView) where
   -- the script stops the call
-  pub script_outcome : (told : Option TextMap) (left : Option (List ℕ)) (stop : Stop) → IfSome told (λ files. IsPrepared words files rows (Program program))
+  pub script_outcome : (told : Option TextMap) (left : Option (List ℕ)) (stop : Stop) → IfSome told (λ files. IsPrepared words files task (Program program))
       → IsReadEnd stop ⊎ ((stop ≡ NotBuilt) × IfSome left (λ text. text ≢ []))
       → IfBothTold told left (λ files text. IsReadEnd stop ⊎ IsOutcome words files text (silent (status_of stop)))
   script_outcome None left stop prepared ends = tt
@@ -150,20 +152,20 @@ module _ (words : List (List ℕ)) (rows : ℕ) (program : ProgramView) where
 
   -- the analysis
   pub analysis_outcome : (told : Option TextMap) (left : Option (List ℕ)) (result : Result Output Stop)
-      → IfSome told (λ files. IsPrepared words files rows (Program program)) → IfSome left (λ text. text ≡ [])
-      → IfOk result (λ output. IsAnalysed program rows (outcome_of output)) → IfErr result (λ stop. stop ≡ Memory)
+      → IfSome told (λ files. IsPrepared words files task (Program program)) → IfSome left (λ text. text ≡ [])
+      → IfOk result (λ output. IsAnalysed (domain_of task) program task.rows (outcome_of output)) → IfErr result (λ stop. stop ≡ Memory)
       → IfBothTold told left (λ files text. IsOutcomeOf words files text result)
   analysis_outcome None left result prepared empty made stops = tt
   analysis_outcome (Some files) None result prepared empty made stops = tt
-  analysis_outcome (Some files) (Some text) (Ok output) (settings, limit, has, holds) empty made stops =
-      analysed settings program _ (record { loaded = has; built = holds; empty = empty }) (subst (λ n. IsAnalysed program n (outcome_of output)) (sym limit) made)
+  analysis_outcome (Some files) (Some text) (Ok output) (settings, same, has, holds) empty made stops =
+      analysed settings program _ (record { loaded = has; built = holds; empty = empty }) (subst (λ t. IsAnalysed (domain_of t) program t.rows (outcome_of output)) (sym same) made)
   analysis_outcome (Some files) (Some text) (Err stop) prepared empty made stops = inl (inr stops)
 
   -- nothing is decided early
   pub program_keeps_early : (told : Option TextMap) (result : Result Output Stop) (P : Type 0)
-      → IfSome told (λ files. IsPrepared words files rows (Program program)) → IfSome told (λ files. KeepsEarly words files result P)
+      → IfSome told (λ files. IsPrepared words files task (Program program)) → IfSome told (λ files. KeepsEarly words files result P)
   program_keeps_early None result P prepared = tt
-  program_keeps_early (Some files) result P (settings, limit, has, holds) = λ outcome is. absurd (program_not_early words files settings program has holds outcome is)
+  program_keeps_early (Some files) result P (settings, same, has, holds) = λ outcome is. absurd (program_not_early words files settings program has holds outcome is)
 
 pub line_keeps_early : (words : List (List ℕ)) (told : Option TextMap) (output : Output) (P : Type 0) → IfSome told (λ files. IsEarly words files (outcome_of output))
     → IfSome told (λ files. KeepsEarly words files (Ok output) P)

@@ -1,8 +1,8 @@
--- A call has one outcome at most, but that a stop may come beside a table.
+-- A call has one outcome at most, but that a stop may come beside a table or the other stop.
 use Rattle.std.proofs.Common.{◌≡◌, ◌≢◌, ◌≤◌, ◌⊎◌, ℕ, List, Bool, Option, None, Some, Result, Ok, Err, true, false, length, refl, sym, ◌∙◌, ap, subst, arith, inl, inr}
 use Rattle.plai_base.specs.Texts.{TextMap, text_of, longest_text}
 use Rattle.plai_terms.specs.declared.plain_row.PlainRow.{PlainRow}
-use Rattle.plai_assignments.specs.Groundness.{groundness}
+use Rattle.plai_domain.specs.Plain.{PlainDomain}
 use Rattle.plai_clauses.specs.Program.{ProgramView}
 use Rattle.plai_eval.specs.LeastTable.{IsLeastTable}
 use Rattle.plai_modules.specs.Loading.{Refusal, loaded}
@@ -10,7 +10,9 @@ use Rattle.plai_words.specs.Command.{settings_of}
 use Rattle.plai_words.specs.declared.types.Settings.{Settings}
 use Rattle.plai_top.specs.Commands.{most_files, is_built_command, IsCommand}
 use Rattle.plai_top.specs.Files.{texts_of, IsSomeLong, is_built_program, HasFiles, HasProgram, HasRefusal}
-use Rattle.plai_top.specs.Outcome.{Outcome, done, refused_by, IsByWords, no_command, not_built, too_many, IsEarly, by_words, too_long, refused, unbuilt, IsAnalysed, table, stopped, early, scripted, analysed, IsBlock, OutcomeIsOne}
+use Rattle.plai_top.specs.Outcome.{Outcome, done, refused_by, IsByWords, no_command, not_built, too_many, IsEarly, by_words, too_long, refused, unbuilt, IsAnalysed, table, many_rows, large_sets, early, scripted, analysed, IsBlock, IsStop, OutcomeIsOne}
+use Rattle.plai_top.specs.Tasks.{domain_of, task_of}
+use Rattle.plai_top.specs.declared.task.Task.{Task}
 
 not_both : (b : Bool) → b ≡ true → b ≡ false → ⊥
 not_both b holds fails = let e : true ≡ false = sym holds ∙ fails in cc
@@ -111,18 +113,33 @@ module _ (words : List (List ℕ)) where
     program_not_early s program one holds outcome (refused t refusal two) = program_and_refusal s t program refusal one two
     program_not_early s program one holds outcome (unbuilt t other two fails) = built_program_twice s t program other one two holds fails
 
-    pub same_limit : (s t : Settings) (program other : ProgramView) → HasProgram words files s program → HasProgram words files t other → s.rows ≡ t.rows
-    same_limit s t program other one two = ap (λ x. x.rows) (same_command s t one.given.command two.given.command)
+    pub same_task : (s t : Settings) (program other : ProgramView) → HasProgram words files s program → HasProgram words files t other → task_of s ≡ task_of t
+    same_task s t program other one two = ap task_of (same_command s t one.given.command two.given.command)
 
-module _ (table_one : (program : ProgramView) (rows others : List PlainRow) → IsLeastTable groundness program rows → IsLeastTable groundness program others → rows ≡ others) where
+module _ (table_one : (task : Task) (program : ProgramView) (rows others : List PlainRow) → IsLeastTable (domain_of task) program rows
+    → IsLeastTable (domain_of task) program others → rows ≡ others) where
   abbrev AreOne : Outcome → Outcome → Type 0
-  AreOne first second = (first ≡ second) ⊎ (IsBlock first × IsBlock second × (first.status ≢ second.status))
+  AreOne first second = (first ≡ second) ⊎ (IsBlock first × IsBlock second × (IsStop first ⊎ IsStop second))
 
-  analysis_is_one : (program : ProgramView) (limit : ℕ) (first second : Outcome) → IsAnalysed program limit first → IsAnalysed program limit second → AreOne first second
-  analysis_is_one program limit first second (table rows least within) (table others also kept) = inl (ap done (table_one program rows others least also))
-  analysis_is_one program limit first second (table rows least within) (stopped more) = inr (omega arith, omega arith, λ e. omega arith)
-  analysis_is_one program limit first second (stopped more) (table rows least within) = inr (omega arith, omega arith, λ e. omega arith)
-  analysis_is_one program limit first second (stopped more) (stopped also) = inl refl
+  -- an outcome of an analysis is a table within the limit, or a block that names a limit
+  stop_first : (first second : Outcome) → IsStop first → IsBlock second → AreOne first second
+  stop_first first second is block = inr (omega arith, block, inl is)
+
+  stop_second : (first second : Outcome) → IsBlock first → IsStop second → AreOne first second
+  stop_second first second block is = inr (block, omega arith, inr is)
+
+  analysed_block : (p : PlainDomain) (program : ProgramView) (limit : ℕ) (outcome : Outcome) → IsAnalysed p program limit outcome → IsBlock outcome
+  analysed_block p program limit outcome (table rows least within not_over) = omega arith
+  analysed_block p program limit outcome (many_rows more) = omega arith
+  analysed_block p program limit outcome (large_sets over) = omega arith
+
+  analysis_is_one : (task : Task) (program : ProgramView) (first second : Outcome) → IsAnalysed (domain_of task) program task.rows first
+      → IsAnalysed (domain_of task) program task.rows second → AreOne first second
+  analysis_is_one task program first second (table rows least within not_over) (table others also kept neither) = inl (ap done (table_one task program rows others least also))
+  analysis_is_one task program first second (table rows least within not_over) (many_rows more) = stop_second _ _ (omega arith) refl
+  analysis_is_one task program first second (table rows least within not_over) (large_sets over) = absurd (not_over over)
+  analysis_is_one task program first second (many_rows more) other = stop_first _ _ refl (analysed_block _ program _ second other)
+  analysis_is_one task program first second (large_sets over) other = stop_first _ _ refl (analysed_block _ program _ second other)
 
   pub one_outcome : OutcomeIsOne
   one_outcome words files script first second (early _ one) (early _ two) = inl (early_is_one words files first second one two)
@@ -134,7 +151,7 @@ module _ (table_one : (program : ProgramView) (rows others : List PlainRow) → 
   one_outcome words files script first second (analysed s program _ ready made) (early _ two) = absurd (program_not_early words files s program ready.loaded ready.built second two)
   one_outcome words files script first second (analysed s program _ ready made) (scripted t other two also any) = absurd (any ready.empty)
   one_outcome words files script first second (analysed s program _ ready made) (analysed t other _ also makes) =
-      let limit : t.rows ≡ s.rows = sym (same_limit words files s t program other ready.loaded also.loaded) in
       let same : other ≡ program = sym (same_program words files s t program other ready.loaded also.loaded) in
-      let moved : IsAnalysed program t.rows second = subst (λ p. IsAnalysed p t.rows second) same makes in
-      analysis_is_one program s.rows first second made (subst (λ n. IsAnalysed program n second) limit moved)
+      let task : task_of t ≡ task_of s = sym (same_task words files s t program other ready.loaded also.loaded) in
+      let moved : IsAnalysed (domain_of (task_of t)) program t.rows second = subst (λ x. IsAnalysed (domain_of (task_of t)) x t.rows second) same makes in
+      analysis_is_one (task_of s) program first second made (subst (λ x. IsAnalysed (domain_of x) program x.rows second) task moved)

@@ -6,4 +6,5 @@ pub mod Outcome
 pub mod Outputs
 pub mod Refusal
 pub mod Stops
+pub mod Tasks
 pub mod Told

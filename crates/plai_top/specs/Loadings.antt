@@ -5,6 +5,8 @@ use Rattle.plai_modules.specs.Loading.{Refusal, loaded}
 use Rattle.plai_words.specs.declared.types.Settings.{Settings}
 use Rattle.plai_top.specs.Files.{is_built_program, HasProgram}
 use Rattle.plai_top.specs.Outcome.{refused_by, IsEarly}
+use Rattle.plai_top.specs.Tasks.{task_of}
+use Rattle.plai_top.specs.declared.task.Task.{Task}
 use Rattle.plai_top.specs.declared.loading.Loading.{Loading}
 use Rattle.plai_top.specs.declared.loading.Loading.TheVariants.{Program, Refused}
 
@@ -14,11 +16,11 @@ IsLoading names texts (Program program) = (loaded texts ≡ Ok program) × (is_b
 IsLoading names texts (Refused line) =
     (refusal : Refusal) × (loaded texts ≡ Err refusal) × (refused_by names refusal ≡ record { status = 3; bytes = line.items })
 
--- the words and the files make this, under that limit of rows
-abbrev pub IsPrepared : List (List ℕ) → TextMap → ℕ → Loading → Type 0
-IsPrepared words files rows (Program program) =
-    (settings : Settings) × (settings.rows ≡ rows) × HasProgram words files settings program × (is_built_program program ≡ true)
-IsPrepared words files rows (Refused line) = IsEarly words files (record { status = 3; bytes = line.items })
+-- the words and the files make this, for that analysis
+abbrev pub IsPrepared : List (List ℕ) → TextMap → Task → Loading → Type 0
+IsPrepared words files task (Program program) =
+    (settings : Settings) × (task_of settings ≡ task) × HasProgram words files settings program × (is_built_program program ≡ true)
+IsPrepared words files task (Refused line) = IsEarly words files (record { status = 3; bytes = line.items })
 
 -- the line of a refusal has bytes
 abbrev pub HasLine : Loading → Type 0

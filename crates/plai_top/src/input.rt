@@ -7,10 +7,9 @@ ghost use Rattle.plai_top.specs.Files.{texts_of, AreShort, IsSomeLong};
 ghost use Rattle.plai_top.specs.Stops.{IsReadEnd};
 
 use crate::stop::Stop;
-use plai_base::{Library, ReadFail, Source, read_whole};
+use plai_base::{Library, ReadFail, Source, Text, read_whole};
 use plai_modules::NamedText;
-use plai_terms::{Listed, Name};
-use plai_words::Text;
+use plai_terms::Listed;
 use std::alloc::{AllocError, Global};
 
 /// The most bytes of the script: 16 mebibytes.
@@ -21,9 +20,8 @@ fn named(alloc: Global, name: &Text, text: Vec<u8>) -> Result<NamedText, AllocEr
     ensures name { IfOk result (λ file. file.name ≡ name.now) }
     ensures text { IfOk result (λ file. file.text ≡ text.items) }
 {
-    let bytes = name.as_str().as_bytes();
     Ok(NamedText {
-        name: Name::new(Vec::from_slice(alloc, bytes)?),
+        name: Text::new(String::from_str(alloc, name.as_str())?),
         text: Listed::new(text),
     })
 }

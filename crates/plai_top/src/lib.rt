@@ -8,8 +8,7 @@ mod loading;
 mod output;
 mod refusal;
 mod stop;
-#[cfg(test)]
-mod tests;
+mod task;
 mod top;
 
 pub use stop::Stop;

@@ -47,7 +47,11 @@ fn line_of(
     ensures { IfOk result (λ line. line.items ≡ refusal_text (name_at (map (λ f. f.name) files.now) number) term cause.now) }
 {
     match files.get((number as usize).saturating_sub(1)) {
-        Some(file) => refusal_line(alloc, &file.name, term, cause),
+        Some(file) => {
+            let bytes = file.name.as_str().as_bytes();
+            let name = Name::new(Vec::from_slice(alloc, bytes)?);
+            refusal_line(alloc, &name, term, cause)
+        }
         None => refusal_line(alloc, &Name::new(Vec::new(alloc)), term, cause),
     }
 }

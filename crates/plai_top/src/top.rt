@@ -16,41 +16,34 @@ use crate::input::{read_files, read_script};
 use crate::loading::{Loading, load_files};
 use crate::output::Output;
 use crate::stop::Stop;
+use crate::task::{Task, task_of};
 use plai_base::{Library, Sink, Source, Steps, write_whole};
 use plai_domain::Work;
-use plai_eval::{AnyPlainDomain, least_table_is_one};
+use plai_eval::least_table_is_one;
 use std::alloc::Global;
 use std::sync::ledger::Ledger;
 
-/// Groundness, for the laws of all domains.
-pub struct Groundness {}
-
-impl AnyPlainDomain for Groundness {
-    ghost use Rattle.plai_assignments.specs.Groundness.{groundness};
-
-    ghost plain = { groundness };
-}
-
-/// A law: words, files and a script have one outcome at most, but that a stop may come beside a table.
+/// A law: words, files and a script have one outcome at most, but that a stop may come beside a table or the other stop.
 pub fn outcome_is_one()
     ensures { OutcomeIsOne }
 {
-    least_table_is_one::<Groundness>();
+    least_table_is_one::<Task>();
 }
 
-/// What the files of a command are loaded to, with its limit of rows.
+/// What the files of a command are loaded to, and what analysis it asks for.
 #[derive(Debug, Drop)]
 struct Prepared {
-    rows: u64,
+    task: Task,
     loading: Loading,
 }
 
 /// Reads the words and the files, and loads them.
 fn prepare<B: Library>(alloc: Global, words: &[&str], library: &mut B) -> Result<Prepared, Stop>
     ensures outcome { IfSome (B.files library.old) (λ files. MatchResult result
-        (λ prepared. IsPrepared (texts words.now) files prepared.rows prepared.loading)
+        (λ prepared. IsPrepared (texts words.now) files prepared.task prepared.loading)
         (λ stop. IsReadEnd stop ⊎ IsEarly (texts words.now) files (silent (status_of stop)))) }
     ensures line { IfOk result (λ prepared. HasLine prepared.loading) }
+    ensures depth { IfOk result (λ prepared. (1 ≤ prepared.task.depth) × (prepared.task.depth ≤ 8)) }
     ensures words { KeepsWords (texts words.now) result }
     ensures command { IsErrOf result Stop.NoCommand → settings_of (texts words.now) ≡ None }
     ensures no_write { IsErrOf result Stop.WriteFault → ⊥ }
@@ -62,7 +55,7 @@ fn prepare<B: Library>(alloc: Global, words: &[&str], library: &mut B) -> Result
         Ok(settings) => match read_files(alloc, settings.files.as_slice(), library) {
             Ok(files) => match load_files(alloc, files.as_slice()) {
                 Ok(loading) => Ok(Prepared {
-                    rows: settings.rows,
+                    task: task_of(&settings),
                     loading,
                 }),
                 Err(stop) => Err(stop),
@@ -114,9 +107,9 @@ fn output<B: Library, S: Source, W: Work, L: Ledger>(
         (λ stop. (stop ≡ Stop.Memory → ⊥) → steps.new ≡ steps.old) }
 {
     match prepare(alloc, words, library) {
-        Ok(Prepared { rows, loading }) => match loading {
+        Ok(Prepared { task, loading }) => match loading {
             Loading::Program(program) => match read_script(alloc, script) {
-                Ok(()) => analysed(alloc, &program, rows, work, steps),
+                Ok(()) => analysed(alloc, &program, task, work, steps),
                 Err(stop) => Err(stop),
             },
             Loading::Refused(bytes) => Ok(Output { status: 3, bytes }),
@@ -125,20 +118,20 @@ fn output<B: Library, S: Source, W: Work, L: Ledger>(
     }
 }
 
-/// Analyses the files that the words name under groundness, and writes the table. The answer is the program's status,
+/// Analyses the files that the words name under the domain that they name, and writes the table. The answer is the program's status,
 /// from 0 to 8.
 ///
 /// | Status | Comes |
 /// |---|---|
 /// | 0 | all was done: the script was read to its end, and the sink took the whole table |
-/// | 1 | all was done, but the analysis met its limit of rows, which the sink took the line of |
+/// | 1 | all was done, but the analysis met its limit of rows, or a set of more than 65,536 groups: the sink took the line that says so |
 /// | 2 | the words form no command; nothing was written |
 /// | 3 | loading refused a term; the sink took the line that names it |
 /// | 4 | there are more than 64 files, or a file has more than 4,194,304 bytes; nothing was written |
 /// | 5 | the library or the script failed; nothing was written |
 /// | 6 | the sink failed; a part of the output was written |
 /// | 7 | memory is wanting; a part of the output was written |
-/// | 8 | the words name another domain or `--make`, the loaded program has a check, or the script has a byte: forms that aren't taken yet; nothing was written |
+/// | 8 | the words have `--make`, the loaded program has a check, or the script has a byte: forms that aren't taken yet; nothing was written |
 pub fn run<B: Library, S: Source, K: Sink, W: Work, L: Ledger>(
     alloc: Global,
     words: &[&str],

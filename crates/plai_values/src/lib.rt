@@ -16,6 +16,3 @@ pub use functor::{Binary, Unary};
 pub use groundness::is_ground_term;
 pub use laws::term_order_is_total;
 pub use order::{compare, same_term};
-
-#[cfg(test)]
-mod tests;

@@ -1,5 +1,5 @@
 -- The settings that what clap found comes to.
-use Rattle.std.proofs.Common.{◌≡◌, ◌≢◌, ℕ, List, [], ◌∷◌, Bool, Option, None, Some, Result, Ok, Err, true, false, refl, ap, sym, ◌∙◌, length, rules}
+use Rattle.std.proofs.Common.{◌≡◌, ◌≢◌, ℕ, List, [], ◌∷◌, Bool, Option, None, Some, Result, Ok, Err, true, false, refl, ap, sym, ◌∙◌, ◌≤◌, IfSome, arith, length, rules}
 use Rattle.std.proofs.lemmas.Bool.{false≢true, true≢false}
 use Rattle.std.specs.Bool.{beq}
 use Rattle.std.specs.Prelude.{option_to_list, option_and_then, unwrap_or, is_some, ◌==◌, not, IfOk, IsErrOf, MatchResult}
@@ -163,3 +163,8 @@ on_match e (Err x) h = (tt, λ _. e ∙ h.1)
 pub by_same_ok : {T E : Type 0} {a b : Option T} → a ≡ b → (r : Result T E) → IfOk r (λ s. b ≡ Some s) → IfOk r (λ s. a ≡ Some s)
 by_same_ok e (Ok s) h = e ∙ h
 by_same_ok e (Err x) h = tt
+
+-- the depth is 3 where none is given
+pub three_or_given : (depth : Option ℕ) → IfSome depth (λ n. (1 ≤ n) × (n ≤ 8)) → (1 ≤ unwrap_or depth 3) × (unwrap_or depth 3 ≤ 8)
+three_or_given None within = (omega arith, omega arith)
+three_or_given (Some n) within = within

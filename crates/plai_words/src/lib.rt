@@ -11,9 +11,7 @@ mod read;
 mod types;
 
 pub use fail::WordsFail;
-pub use files::{Files, Text};
+pub use files::Files;
+pub use plai_base::Text;
 pub use read::settings;
 pub use types::{DomainName, Settings};
-
-#[cfg(test)]
-mod tests;

@@ -1,5 +1,5 @@
 // Numbers of the command line.
-ghost use Rattle.std.specs.Prelude.{◌≡◌, true};
+ghost use Rattle.std.specs.Prelude.{◌≡◌, ◌≤◌, true, IfSome};
 ghost use Rattle.std.specs.List.{list_all};
 ghost use Rattle.plai_words.specs.Numbers.{is_digit, is_short_numeral, decimal, number};
 
@@ -40,7 +40,8 @@ fn decimal(text: &[u8]) -> u32
 /// The number from 1 to the greatest one that a text writes, with one to six decimal digits and no sign.
 #[tactic(auto, unfolding(crate::specs::Numbers::number))]
 pub fn number(most: u32, text: &[u8]) -> Option<u32>
-    ensures { result ≡ number most text.now }
+    ensures number { result ≡ number most text.now }
+    ensures within { IfSome result (λ n. (1 ≤ n) × (n ≤ most)) }
 {
     if is_short_numeral(text) {
         let value = decimal(text);

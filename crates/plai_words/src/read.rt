@@ -1,5 +1,5 @@
 // The settings of the command line.
-ghost use Rattle.std.specs.Prelude.{◌≡◌, [], ◌≢◌, None, Some, IfOk, IfErr, MatchResult, IsErrOf, option_map, option_to_list, unwrap_or};
+ghost use Rattle.std.specs.Prelude.{◌≡◌, ◌≤◌, [], ◌≢◌, None, Some, IfSome, IfOk, IfErr, MatchResult, IsErrOf, option_map, option_to_list, unwrap_or};
 ghost use Rattle.clap.specs.Words.{all_of, found_of, rows_of};
 ghost use Rattle.plai_words.specs.Command.{completed, settings_of, texts};
 ghost use Rattle.plai_words.specs.Given.{domain_named};
@@ -11,11 +11,12 @@ use crate::bundle::has_bundle;
 use crate::command::{DEPTH, DOMAIN, FILES, MAKE, ROWS, command};
 use crate::domain::domain_named;
 use crate::fail::WordsFail;
-use crate::files::{Files, Text, copied};
+use crate::files::{Files, copied};
 use crate::number::number;
 use crate::types::{DomainName, Settings};
 use clap::ArgMatches;
 use clap::error::ErrorKind;
+use plai_base::Text;
 use std::alloc::Global;
 
 /// The greatest depth.
@@ -44,9 +45,10 @@ fn domain_given(text: Option<&str>) -> Result<Option<DomainName>, WordsFail>
 
 /// The number that a text writes, where there is a text.
 fn number_given(most: u32, text: Option<&str>) -> Result<Option<u32>, WordsFail>
-    ensures { MatchResult result
+    ensures read { MatchResult result
         (λ n. read_once (number most) (option_map (λ s. s.now) text.entry) ≡ Some (option_to_list n))
         (λ e. (e ≡ WordsFail.Refused) × (read_once (number most) (option_map (λ s. s.now) text.entry) ≡ None)) }
+    ensures within { IfOk result (λ given. IfSome given (λ n. (1 ≤ n) × (n ≤ most))) }
 {
     let Some(text) = text else {
         return Ok(None);
@@ -88,9 +90,11 @@ fn complete(
     make: Option<u32>,
     files: Vec<Text>,
 ) -> Result<Settings, WordsFail>
-    ensures { MatchResult result
+    requires depth { IfSome depth (λ n. (1 ≤ n) × (n ≤ 8)) }
+    ensures settings { MatchResult result
         (λ s. completed (noted domain depth rows make files.items) ≡ Some s)
         (λ e. (e ≡ WordsFail.Refused) × (completed (noted domain depth rows make files.items) ≡ None)) }
+    ensures depth { IfOk result (λ s. (1 ≤ s.depth) × (s.depth ≤ 8)) }
 {
     if make.is_some() != files.as_slice().is_empty() {
         return Err(WordsFail::Refused);
@@ -108,6 +112,7 @@ fn complete(
 fn settings_from(alloc: Global, matches: &ArgMatches) -> Result<Settings, WordsFail>
     ensures ok { IfOk result (λ s. settings_in (rows_of (found_of matches.now)) ≡ Some s) }
     ensures refused { IsErrOf result WordsFail.Refused → settings_in (rows_of (found_of matches.now)) ≡ None }
+    ensures depth { IfOk result (λ s. (1 ≤ s.depth) × (s.depth ≤ 8)) }
 {
     let domain = domain_given(matches.get_str(DOMAIN))?;
     let depth = number_given(MAX_DEPTH, matches.get_str(DEPTH))?;
@@ -143,6 +148,7 @@ fn refusal(kind: ErrorKind) -> WordsFail
 pub fn settings(alloc: Global, words: &[&str]) -> Result<Settings, WordsFail>
     ensures ok { IfOk result (λ s. settings_of (texts words.now) ≡ Some s) }
     ensures refused { IsErrOf result WordsFail.Refused → settings_of (texts words.now) ≡ None }
+    ensures depth { IfOk result (λ s. (1 ≤ s.depth) × (s.depth ≤ 8)) }
 {
     if has_bundle(words) {
         return Err(WordsFail::Refused);

@@ -1,13 +1,20 @@
-use Rattle.std.proofs.Common.{◌≤◌, sym, length, subst, ℕ, []}
-use Rattle.plai_clauses.proofs.Changes.{changed_by, changed_not}
+use Rattle.std.proofs.Common.{◌≡◌, ◌∙◌, None, [], List, ap, sym}
+use Rattle.std.specs.Map.{lookup, set_value}
+use Rattle.plai_clauses.specs.declared.clause.Clause.{Clause}
+use Rattle.plai_clauses.specs.Program.{same_pred}
+use Rattle.plai_clauses.specs.Keyed.{definitions_in}
+use Rattle.plai_clauses.proofs.Keyed.{set_changed, not_changed}
 use Rattle.plai_clauses.proofs.definition.clear_clauses.Goals as goal
 
-pub returns-then-place-definitions : goal.returns-then-place-definitions
-returns-then-place-definitions c =
-    changed_by (λ _. []) c.args.definitions.now c.args.pred.now c.place_in-place.result c.index-definitions-place.result c.clear.new.self
-    c.place_in-place.ensures.place c.if-place-definitions.true c.clear.ensures
+pub returns-in-Some : goal.returns-in-Some
+returns-in-Some c =
+    let es = c.args.definitions.now.entries in
+    let w = c.clear.new.self in
+    ap definitions_in (c.get_mut.follows.holds w).0 ∙ ap (λ (cs : List Clause). definitions_in (set_value (same_pred c.args.pred.now) es cs)) c.clear.ensures
+    ∙ set_changed (λ _. []) es c.args.pred.now c.in-Some.clauses.now (sym c.in-Some.ensures.value)
 
-pub returns-else-place-definitions : goal.returns-else-place-definitions
-returns-else-place-definitions c =
-    sym (changed_not (λ _. []) c.args.definitions.now c.args.pred.now
-    (subst (λ (p : ℕ). length c.args.definitions.now ≤ p) c.place_in-place.ensures.place c.if-place-definitions.false))
+pub returns-in-None : goal.returns-in-None
+returns-in-None c =
+    let es = c.args.definitions.now.entries in
+    let none : lookup (same_pred c.args.pred.now) es ≡ None = sym c.in-None.ensures.value in
+    rw c.get_mut.follows.holds-at-none (not_changed (λ _. []) es c.args.pred.now none)

@@ -1,23 +1,27 @@
-use Rattle.std.proofs.Common.{◌<◌, length, sym, subst, List, ℕ}
+use Rattle.std.proofs.Common.{◌≡◌, ◌∙◌, None, [], ◌<◌, List, ap, sym, subst, length}
 use Rattle.std.specs.List.{remove}
+use Rattle.std.specs.Map.{lookup, set_value}
+use Rattle.std.specs.Prelude.{unwrap_or}
 use Rattle.plai_clauses.specs.declared.clause.Clause.{Clause}
-use Rattle.plai_clauses.specs.Program.{place_in}
-use Rattle.plai_clauses.proofs.Changes.{changed_by, clauses_at, defined}
+use Rattle.plai_clauses.specs.Program.{same_pred}
+use Rattle.plai_clauses.specs.Keyed.{definitions_in}
+use Rattle.plai_clauses.proofs.Keyed.{found_clauses, set_changed, not_changed}
 use Rattle.plai_clauses.proofs.definition.remove_clause.Goals as goal
-
-pub bounds-definitions-place : goal.bounds-definitions-place
-bounds-definitions-place c =
-    subst (λ (p : ℕ). p < length c.args.definitions.now) (sym c.place_in-place.ensures.place) (defined c.args.definitions.now c.args.pred.now c.args.number c.requires)
 
 pub remove-requires : goal.remove-requires
 remove-requires c =
-    let h : place_in c.args.definitions.now c.args.pred.now < length c.args.definitions.now = defined c.args.definitions.now c.args.pred.now c.args.number c.requires in
-    rw c.place_in-place.ensures.place
-    (subst (λ (cs : List Clause). c.args.number < length cs) (clauses_at c.args.definitions.now c.args.pred.now c.index-definitions-place.result h) c.requires)
+    let es = c.args.definitions.now.entries in
+    subst (λ (cs : List Clause). c.args.number < length cs) (found_clauses es c.args.pred.now ∙ ap (λ o. unwrap_or o []) (sym c.in-Some.ensures.value)) c.requires
 
-pub returns : goal.returns
-returns c =
-    changed_by (λ clauses. remove clauses c.args.number) c.args.definitions.now c.args.pred.now c.place_in-place.result c.index-definitions-place.result c.remove.new.self
-    c.place_in-place.ensures.place
-    (subst (λ (p : ℕ). p < length c.args.definitions.now) (sym c.place_in-place.ensures.place) (defined c.args.definitions.now c.args.pred.now c.args.number c.requires))
-    c.remove.ensures
+pub returns-in-Some : goal.returns-in-Some
+returns-in-Some c =
+    let es = c.args.definitions.now.entries in
+    let w = c.remove.new.self in
+    ap definitions_in (c.get_mut.follows.holds w).0 ∙ ap (λ (cs : List Clause). definitions_in (set_value (same_pred c.args.pred.now) es cs)) c.remove.ensures
+    ∙ set_changed (λ cs. remove cs c.args.number) es c.args.pred.now c.in-Some.clauses.now (sym c.in-Some.ensures.value)
+
+pub returns-in-None : goal.returns-in-None
+returns-in-None c =
+    let es = c.args.definitions.now.entries in
+    let none : lookup (same_pred c.args.pred.now) es ≡ None = sym c.in-None.ensures.value in
+    rw c.get_mut.follows.holds-at-none (not_changed (λ cs. remove cs c.args.number) es c.args.pred.now none)

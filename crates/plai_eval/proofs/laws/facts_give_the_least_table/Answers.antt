@@ -2,4 +2,4 @@ use Rattle.plai_eval.proofs.Facts.{facts_least}
 use Rattle.plai_eval.proofs.laws.facts_give_the_least_table.Goals as goal
 
 pub returns : goal.returns
-returns g c = λ program facts rows. facts_least g.T.AnyPlainDomain.plain program facts rows
+returns g c = λ domain program facts rows. facts_least (g.T.AnyPlainDomain.plain domain) program facts rows

@@ -1,6 +1,6 @@
 use Rattle.std.proofs.Common.{◌≡◌, length, arith}
 use Rattle.std.proofs.lemmas.Grind.{common_steps}
-use Rattle.plai_assignments.specs.Groundness.{arity_of}
+use Rattle.plai_pos_laws.specs.Groundness.{arity_of}
 use Rattle.plai_pos.specs.Values.{value_of}
 use Rattle.plai_ground_tests.proofs.Places.{is_state, is_value_of}
 use Rattle.plai_ground_tests.proofs.models_tests.back.Goals as goal

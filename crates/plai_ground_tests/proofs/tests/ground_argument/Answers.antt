@@ -1,5 +1,5 @@
 use Rattle.std.proofs.Common.{ap}
-use Rattle.plai_assignments.specs.Groundness.{arity_of, groundness}
+use Rattle.plai_pos_laws.specs.Groundness.{arity_of, groundness}
 use Rattle.plai_pos.specs.Values.{value_of}
 use Rattle.plai_pos.proofs.Equal.{is_value}
 use Rattle.plai_ground_tests.proofs.Fits.{by_arity_fits}

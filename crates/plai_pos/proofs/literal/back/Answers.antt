@@ -3,9 +3,9 @@ use Rattle.plai_base.proofs.Sets.{IsSet-kept}
 use Rattle.plai_base.specs.Mask.{has_slot}
 use Rattle.plai_base.specs.Sets.{has}
 use Rattle.plai_bdd.specs.Nodes.{holds}
-use Rattle.plai_bdd.specs.Product.{together}
+use Rattle.plai_factors.specs.Product.{together}
 use Rattle.plai_bdd.proofs.Steps.{ok_then}
-use Rattle.plai_assignments.specs.Groundness.{state_with}
+use Rattle.plai_pos_laws.specs.Groundness.{state_with}
 use Rattle.plai_pos.specs.TermSlots.{AreBelow}
 use Rattle.plai_pos.specs.Values.{IsDiagram, models_in, models_of}
 use Rattle.plai_pos.proofs.Alike.{positive_function}
@@ -27,8 +27,8 @@ preimage-requires-clause-function c =
     let size = ap length c.as_slice.ensures.value ∙ c.in_ok-sets.ensures.size in
     subst (λ k. IsDiagram k c.args.answer.now.diagram) (c.requires.answer ∙ sym size) (value_diagram c.args.answer.now)
 
-pub with_factor-requires : goal.with_factor-requires
-with_factor-requires c = positive_function c.args.state.now.variables c.in_ok-known.known c.in_ok-known.ensures.diagram
+pub with_function-requires : goal.with_function-requires
+with_function-requires c = positive_function c.args.state.now.variables c.in_ok-known.known c.in_ok-known.ensures.diagram
 
 pub returns : goal.returns
 returns c =
@@ -43,4 +43,4 @@ returns c =
     (answered_whole s.arity s.variables s.sets.items ys s.size is
     c.args.args.now c.requires.below c.in_ok-sets.sets.items c.in_ok-sets.ensures c.as_slice.result.now c.as_slice.ensures.value
     (λ k. models_of k given.diagram) given.arity c.requires.answer (filter (λ y. holds c.in_ok-known.known (has_slot y)) ys) made))
-    c.with_factor.result c.with_factor.ensures
+    c.with_function.result c.with_function.ensures

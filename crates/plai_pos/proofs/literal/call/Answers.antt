@@ -1,9 +1,9 @@
 use Rattle.std.proofs.Common.{◌≡◌, ◌^◌, length, sym, ap, ◌∙◌, subst, arith}
 use Rattle.plai_base.specs.Mask.{has_slot}
 use Rattle.plai_base.proofs.Sets.{IsSet-kept}
-use Rattle.plai_bdd.specs.Product.{together}
+use Rattle.plai_factors.specs.Product.{together}
 use Rattle.plai_bdd.proofs.Steps.{ok_then}
-use Rattle.plai_assignments.specs.Assignments.{call_of}
+use Rattle.plai_pos_laws.specs.Assignments.{call_of}
 use Rattle.plai_pos.specs.TermSlots.{AreBelow}
 use Rattle.plai_pos.specs.Values.{IsDiagramOf, IsPositiveBelow, assignments_of, image, models_in}
 use Rattle.plai_pos.proofs.Equal.{state_positive}

@@ -1,5 +1,4 @@
-use Rattle.std.proofs.Common.{arith}
-use Rattle.plai_bdd.specs.Product.{together}
+use Rattle.plai_factors.specs.Product.{together}
 use Rattle.plai_bdd.proofs.Steps.{ok_then}
 use Rattle.plai_pos.proofs.Literals.{projected_is, image_is}
 use Rattle.plai_pos.proofs.literal.image.Goals as goal

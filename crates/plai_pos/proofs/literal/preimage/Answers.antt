@@ -1,5 +1,5 @@
-use Rattle.std.proofs.Common.{◌≡◌, ◌+◌, ◌∙◌}
-use Rattle.plai_bdd.specs.Product.{together}
+use Rattle.std.proofs.Common.{◌≡◌, ◌+◌, ap, ◌∙◌}
+use Rattle.plai_factors.specs.Product.{together}
 use Rattle.plai_bdd.specs.Assignment.{Assignment}
 use Rattle.plai_bdd.specs.Nodes.{holds}
 use Rattle.plai_bdd.proofs.Slots.{some_meaning}
@@ -11,9 +11,9 @@ use Rattle.plai_pos.proofs.literal.preimage.Goals as goal
 pub returns : goal.returns
 returns c =
     let v = c.args.end in
-    let raised = together c.in_ok-raised.raised.items in
-    let raises : (at : Assignment) → together c.in_ok-raised.raised.items at ≡ holds c.args.function.now (λ slot. at (slot + c.args.end)) =
-    λ at. at_alone v c.in_ok-shift_up.field-0 c.in_ok-raised.raised.items c.in_ok-raised.ensures.items at ∙ c.in_ok-shift_up.ensures.answers at in
+    let raised = together c.in_ok-raised-2.raised.items in
+    let raises : (at : Assignment) → together c.in_ok-raised-2.raised.items at ≡ holds c.args.function.now (λ slot. at (slot + c.args.end)) =
+    λ at. at_alone c.in_ok-new.field-0 c.in_ok-raised-2.raised.items c.in_ok-raised-2.ensures.items at ∙ ap (λ f. holds f at) c.in_ok-new.ensures ∙ c.in_ok-raised.ensures.answers at in
     ok_then _ _
     (λ b h.
     preimage_is v c.args.sets.now c.requires.below c.requires.slots c.args.function.now c.requires.function raised raises b h.canonical

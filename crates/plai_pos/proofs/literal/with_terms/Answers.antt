@@ -1,5 +1,5 @@
-use Rattle.std.proofs.Common.{◌≡◌, ◌+◌, length, refl, arith}
-use Rattle.plai_bdd.specs.Product.{together}
+use Rattle.std.proofs.Common.{◌≡◌, ◌+◌, ◌++◌, [], ◌∷◌, length, refl, ap, ◌∙◌, arith}
+use Rattle.plai_factors.specs.Product.{together}
 use Rattle.plai_pos.proofs.Terms.{set_at}
 use Rattle.plai_pos.proofs.Literals.{joining_none, joining_more, joining_all}
 use Rattle.plai_pos.proofs.literal.with_terms.Goals as goal
@@ -11,8 +11,8 @@ pub loop-place-preserved : goal.loop-place-preserved
 loop-place-preserved c =
     let place = c.loop-place.place in
     joining_more c.args.end c.args.sets.now (together c.args.functions.items) place (c.args.end + place) c.index-sets-place.result c.loop-place.all.items c.push.new.self.items
-    c.in_ok-iff_all.field-0 refl (λ at. set_at _ _ place c.index-sets-place.result at refl c.index-sets-place.is c.loop-place-test.true)
-    c.in_ok-push.ensures.items c.in_ok-iff_all.ensures.function c.loop-place.invariant
+    c.in_ok-unified.unified refl (λ at. set_at _ _ place c.index-sets-place.result at refl c.index-sets-place.is c.loop-place-test.true)
+    (c.in_ok-push.ensures.items ∙ ap (λ f. c.loop-place.all.items ++ f ∷ []) c.in_ok-new.ensures) c.in_ok-unified.ensures.function c.loop-place.invariant
 
 pub returns : goal.returns
 returns c =

@@ -1,4 +1,4 @@
-use Rattle.plai_bdd.specs.Product.{together}
+use Rattle.plai_factors.specs.Product.{together}
 use Rattle.plai_pos.proofs.Literals.{IsJoining}
 use Rattle.plai_pos.proofs.literal.with_terms.Given as goal
 

@@ -1,7 +1,7 @@
-use Rattle.std.proofs.Common.{◌≡◌, ◌^◌, not, Bool, ap, ◌∙◌, refl}
+use Rattle.std.proofs.Common.{◌^◌, not, ap, ◌∙◌, refl}
 use Rattle.plai_base.specs.Mask.{has_slot}
 use Rattle.plai_base.proofs.Sets.{IsSet-kept}
-use Rattle.plai_bdd.specs.Product.{together}
+use Rattle.plai_factors.specs.Product.{together}
 use Rattle.plai_bdd.proofs.Steps.{ok_then}
 use Rattle.plai_pos.specs.Values.{models_in}
 use Rattle.plai_pos.proofs.Refined.{maybe_variable, always_true}

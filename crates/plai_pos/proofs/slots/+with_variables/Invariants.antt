@@ -3,7 +3,7 @@ use Rattle.std.specs.List.{list_all}
 use Rattle.plai_terms.specs.Term.{has_variables_below}
 use Rattle.plai_bdd.specs.Assignment.{Assignment}
 use Rattle.plai_bdd.specs.Slots.{conjunction}
-use Rattle.plai_assignments.specs.Assignments.{holds}
+use Rattle.plai_pos_laws.specs.Assignments.{holds}
 use Rattle.plai_pos.specs.TermSlots.{IsBelow}
 use Rattle.plai_pos.proofs.slots.+with_variables.Given as goal
 

@@ -3,8 +3,12 @@ use Rattle.plai_top.proofs.top.prepare.Goals as goal
 
 pub returns-in-Ok-load_files-clause-outcome : goal.returns-in-Ok-load_files-clause-outcome
 returns-in-Ok-load_files-clause-outcome g c =
-    loading_prepares _ _ c.in-Ok.ensures.command _ c.as_slice.ensures c.in-Ok-read_files.files.items _ c.as_slice-in-Ok-read_files.ensures.value c.in-Ok-read_files.ensures.names
-    _ c.in-Ok-read_files.ensures.texts c.in-Ok-read_files.ensures.told_short _ c.in-Ok-load_files.ensures.loading
+    rw c.task_of.ensures
+    (loading_prepares _ _ c.in-Ok.ensures.command _ c.as_slice.ensures c.in-Ok-read_files.files.items _ c.as_slice-in-Ok-read_files.ensures.value c.in-Ok-read_files.ensures.names
+    _ c.in-Ok-read_files.ensures.texts c.in-Ok-read_files.ensures.told_short _ c.in-Ok-load_files.ensures.loading)
+
+pub returns-in-Ok-load_files-clause-depth : goal.returns-in-Ok-load_files-clause-depth
+returns-in-Ok-load_files-clause-depth g c = rw c.task_of.ensures c.in-Ok.ensures.depth
 
 pub returns-in-Ok-read_files-clause-outcome : goal.returns-in-Ok-read_files-clause-outcome
 returns-in-Ok-read_files-clause-outcome g c =

@@ -3,6 +3,7 @@ use Rattle.std.proofs.lemmas.List.{length-map}
 use Rattle.plai_clauses.specs.Program.{ProgramView, place_of, many_of, homes_of_checks}
 use Rattle.plai_clauses.proofs.Invariant.{fewer_checks}
 use Rattle.plai_clauses.proofs.Changes.{place_within}
+use Rattle.plai_clauses.specs.Keyed.{definitions_in}
 use Rattle.plai_clauses.proofs.program.Program.remove_check.Goals as goal
 
 pub remove-requires : goal.remove-requires
@@ -17,4 +18,4 @@ remove-requires c =
     omega (arith, c.self.inside.checks.ok.0)
 
 pub invariant_of-self : goal.invariant_of-self
-invariant_of-self c = fewer_checks c.self.inside.modules.items c.self.inside.definitions.items c.self.inside.entries.items c.self.inside.checks.items c.self.invariant _ c.args.module.now c.args.number (search rules)
+invariant_of-self c = fewer_checks c.self.inside.modules.items (definitions_in c.self.inside.definitions.entries) c.self.inside.entries.items c.self.inside.checks.items c.self.invariant _ c.args.module.now c.args.number (search rules)

@@ -1,7 +1,7 @@
 use Rattle.std.proofs.Common.{sym, ap, ◌∙◌, subst}
-use Rattle.plai_bdd.specs.Product.{together}
+use Rattle.plai_factors.specs.Product.{together}
 use Rattle.plai_bdd.proofs.Steps.{ok_then}
-use Rattle.plai_assignments.specs.Groundness.{state_with}
+use Rattle.plai_pos_laws.specs.Groundness.{state_with}
 use Rattle.plai_pos.specs.Values.{determined, models_in, IsPositiveBelow}
 use Rattle.plai_pos.proofs.Equal.{state_positive}
 use Rattle.plai_pos.proofs.value.State.copy.Goals as goal

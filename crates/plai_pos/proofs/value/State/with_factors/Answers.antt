@@ -1,6 +1,6 @@
 use Rattle.std.proofs.Common.{◌≡◌, length, sym, ap, ◌∙◌, subst}
-use Rattle.plai_bdd.specs.Product.{together}
-use Rattle.plai_assignments.specs.Groundness.{state_with}
+use Rattle.plai_factors.specs.Product.{together}
+use Rattle.plai_pos_laws.specs.Groundness.{state_with}
 use Rattle.plai_pos.specs.TermSlots.{AreBelow}
 use Rattle.plai_pos.specs.Values.{determined, models_in}
 use Rattle.plai_pos.proofs.value.State.with_factors.Goals as goal

@@ -1,0 +1,3 @@
+pub mod PlaceLemmas
+pub mod DirtyLemmas
+pub mod LinkLemmas

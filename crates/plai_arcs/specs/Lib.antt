@@ -1,0 +1,5 @@
+pub mod Flags
+pub mod Places
+pub mod Dirty
+pub mod Links
+pub mod Arcs

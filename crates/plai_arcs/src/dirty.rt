@@ -1,0 +1,55 @@
+//! The dirty clauses of all rows.
+ghost use Rattle.std.specs.Prelude.{◌≡◌, ◌<◌, ℕ, ◌&&◌, ◌||◌, not, nat_eq, true, false, OnOk, IsOk, IfSome, IfNone};
+ghost use Rattle.plai_arcs.specs.Dirty.{dirty_at, HasPlace};
+
+use crate::dirty_row::DirtyRow;
+use std::alloc::{AllocError, Global};
+
+/// Makes a place for the mark of this clause of the row.
+pub(crate) fn make_place(
+    alloc: Global,
+    rows: &mut Vec<DirtyRow>,
+    row: u64,
+    clause: u64,
+) -> Result<(), AllocError>
+    ensures same { (r c : ℕ) → dirty_at rows.new.items r c ≡ dirty_at rows.old.items r c }
+    ensures ok { OnOk result (HasPlace rows.new.items row clause) }
+    ensures succeeds { HasPlace rows.old.items row clause → IsOk result }
+{
+    'grow: while rows.len() as u64 <= row {
+        rows.push(DirtyRow::new(alloc))?;
+    }
+    rows[row as usize].make_room(clause)
+}
+
+/// Marks the clause of the row.
+pub(crate) fn mark(rows: &mut [DirtyRow], row: u64, clause: u64)
+    requires { HasPlace rows.old row clause }
+    ensures { (r c : ℕ) → dirty_at rows.new r c ≡ ((nat_eq r row && nat_eq c clause) || dirty_at rows.old r c) }
+{
+    if row < rows.len() as u64 {
+        rows[row as usize].mark(clause);
+    }
+}
+
+/// Takes the mark of the clause of the row away.
+pub(crate) fn clear(rows: &mut [DirtyRow], row: u64, clause: u64)
+    ensures { (r c : ℕ) → dirty_at rows.new r c ≡ (not (nat_eq r row && nat_eq c clause) && dirty_at rows.old r c) }
+{
+    if row < rows.len() as u64 {
+        rows[row as usize].clear(clause);
+    }
+}
+
+/// The least marked clause of the row.
+pub(crate) fn least(rows: &[DirtyRow], row: u64) -> Option<u64>
+    ensures none { IfNone result ((c : ℕ) → dirty_at rows.now row c ≡ false) }
+    ensures some { IfSome result (λ l. dirty_at rows.now row l ≡ true) }
+    ensures below { IfSome result (λ l. (c : ℕ) → c < l → dirty_at rows.now row c ≡ false) }
+{
+    if row < rows.len() as u64 {
+        rows[row as usize].least()
+    } else {
+        None
+    }
+}

@@ -1,0 +1,5 @@
+//! Tests of what builtins mean, in a crate of their own so that the crate of builtins is proved once.
+#![tactic(auto)]
+
+#[cfg(test)]
+mod meanings;

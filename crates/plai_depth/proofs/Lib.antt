@@ -1,0 +1,4 @@
+pub mod Lists
+pub mod Described
+pub mod Shapes
+pub mod Pushed

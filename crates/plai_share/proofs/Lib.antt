@@ -1,0 +1,14 @@
+pub mod AllUnions
+pub mod Answered
+pub mod Arguments
+pub mod Bits
+pub mod BySlots
+pub mod Filtered
+pub mod InOrder
+pub mod Literals
+pub mod Places
+pub mod Properties
+pub mod Refined
+pub mod Shapes
+pub mod Steps
+pub mod Widened

@@ -1,0 +1,10 @@
+pub mod Limits
+pub mod Renaming
+pub mod Runs
+pub mod States
+pub mod Codes
+pub mod Stacks
+pub mod Steps
+pub mod Nexts
+pub mod Described
+pub mod Verdicts

@@ -1,0 +1,15 @@
+//! Tests of the top call over objects in memory, in a crate of their own so that the call is proved once.
+#![tactic(auto)]
+
+#[cfg(test)]
+mod depths;
+#[cfg(test)]
+mod refusals;
+#[cfg(test)]
+mod sharing;
+#[cfg(test)]
+mod statuses;
+#[cfg(test)]
+mod tables;
+#[cfg(test)]
+mod world;
