@@ -1,6 +1,8 @@
 //! Why a term is no clause.
+ghost use Rattle.std.specs.Prelude.{◌≡◌, IfOk};
+
 use plai_terms::Name;
-use std::alloc::{AllocError, AllocFailed};
+use std::alloc::{AllocError, AllocFailed, Global};
 
 /// Why a term says no clause that a program takes.
 #[derive(Debug, Drop)]
@@ -16,6 +18,22 @@ pub enum ClauseCause {
     /// The head's arguments, the variables and the arguments of the widest literal are so many together, which is
     /// over 64.
     TooManySlots(u32),
+}
+
+impl ClauseCause {
+    /// An equal cause.
+    pub fn copy(&self, alloc: Global) -> Result<ClauseCause, AllocError>
+        ensures { IfOk result (λ cause. cause ≡ self.now) }
+    {
+        Ok(match self {
+            ClauseCause::NotAClause => ClauseCause::NotAClause,
+            ClauseCause::Unsupported(name, arity) => {
+                ClauseCause::Unsupported(name.copy(alloc)?, *arity)
+            }
+            ClauseCause::ArityTooLarge(arity) => ClauseCause::ArityTooLarge(*arity),
+            ClauseCause::TooManySlots(count) => ClauseCause::TooManySlots(*count),
+        })
+    }
 }
 
 /// Why no clause was made of a term.

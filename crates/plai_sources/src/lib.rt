@@ -15,4 +15,7 @@ mod text;
 
 pub use cause::{ItemsFail, LoadCause};
 pub use items::{CheckItem, EntryItem, FileItems, Item, NumberedItem};
-pub use text::read_items;
+pub use properties::{check, entry};
+pub use shape::{atom, list_items, number_up_to, one_argument, two_arguments, variable};
+pub use stop::{Stop, TermFail};
+pub use text::{next_term, read_items};

@@ -1,10 +1,11 @@
-//! Why private functions give no value.
+//! Why a term gives no value.
 use crate::cause::LoadCause;
 use std::alloc::{AllocError, AllocFailed};
 
-/// Why a term stands for nothing.
+/// Why a term gives no value.
 #[derive(Clone, Copy, Debug, PartialEq, Eq)]
 pub enum Stop {
+    /// There is no memory.
     Memory,
     /// The term has another form.
     Unfit,
@@ -13,7 +14,9 @@ pub enum Stop {
 /// Why a term is not taken into a file.
 #[derive(Debug, Drop)]
 pub enum TermFail {
+    /// There is no memory.
     Memory,
+    /// The first cause that refuses it.
     Refused(LoadCause),
 }
 

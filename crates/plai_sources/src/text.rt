@@ -168,8 +168,9 @@ fn unended(tokens: Vec<Token>) -> Result<Option<Vec<Token>>, TermFail>
     }
 }
 
-/// The tokens of the next term, up to and with its full stop, or none at the end of the text.
-fn next_term(alloc: Global, lexer: &mut Lexer) -> Result<Option<Vec<Token>>, TermFail>
+/// The tokens of the next term, up to and with its full stop, or none at the end of the text. Refused with `Lex` at the
+/// first place without a token, with `Syntax` where the text ends within the term.
+pub fn next_term(alloc: Global, lexer: &mut Lexer) -> Result<Option<Vec<Token>>, TermFail>
     ensures takes { Takes lexer.old lexer.new result }
     ensures written { IfOk result (λ found. IfSome found (λ tokens. All (λ token. IsWritten token.kind) tokens.items)) }
 {
