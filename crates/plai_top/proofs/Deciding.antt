@@ -11,17 +11,19 @@ use Rattle.plai_words.specs.declared.types.Settings.{Settings}
 use Rattle.plai_top.specs.Commands.{IsCommand}
 use Rattle.plai_top.specs.Files.{texts_of, AreShort, IsSomeLong, is_built_program, HasFiles}
 use Rattle.plai_top.specs.Loadings.{IsLoading, IsPrepared}
-use Rattle.plai_top.specs.Outcome.{Outcome, silent, refused_by, IsByWords, IsEarly, by_words, too_long, refused, unbuilt, IsAnalysed, IsOutcome, early, scripted, analysed}
-use Rattle.plai_top.specs.Outputs.{outcome_of, KeepsWords, KeepsEarly}
+use Rattle.plai_top.specs.Outcome.{Outcome, silent, line, refused_by, IsByWords, IsEarly, by_words, too_long, refused, unbuilt, IsLoaded, IsByScript, IsOutcome, early, by_script}
+use Rattle.plai_top.specs.Outputs.{KeepsWords}
+use Rattle.plai_top.specs.Plans.{IsPlan, IsScripted, KeepsEarly}
 use Rattle.plai_top.specs.Stops.{status_of, IsReadEnd}
-use Rattle.plai_top.specs.Tasks.{domain_of, task_of}
+use Rattle.plai_top.specs.Tasks.{task_of}
 use Rattle.plai_top.specs.declared.task.Task.{Task}
 use Rattle.plai_top.specs.Told.{IfBothTold}
 use Rattle.plai_top.specs.declared.loading.Loading.{Loading}
 use Rattle.plai_top.specs.declared.loading.Loading.TheVariants.{Program, Refused}
-use Rattle.plai_top.specs.declared.output.Output.{Output}
+use Rattle.plai_top.specs.declared.plan.Plan.{Plan}
+use Rattle.plai_top.specs.declared.plan.Plan.TheVariants.{Line, Blocks}
 use Rattle.plai_top.specs.declared.stop.Stop.{Stop}
-use Rattle.plai_top.specs.declared.top.Prepared.{Prepared}
+use Rattle.plai_top.specs.declared.plan.Prepared.{Prepared}
 use Rattle.plai_top.specs.declared.stop.Stop.TheVariants.{TooLarge, ReadFault, Memory, NotBuilt}
 use Rattle.plai_top.proofs.Outcomes.{words_are_one, not_by_words, early_is_one, program_not_early}
 
@@ -110,11 +112,6 @@ module _ (words : List (List ℕ)) (settings : Settings) (command : IsCommand wo
 
 -- ---- the outcomes
 
-abbrev IsOutcomeOf : List (List ℕ) → TextMap → List ℕ → Result Output Stop → Type 0
-IsOutcomeOf words files script result =
-    MatchResult result (λ output. IsOutcome words files script (outcome_of output))
-    (λ stop. IsReadEnd stop ⊎ IsOutcome words files script (silent (status_of stop)))
-
 -- a stop before the script
 pub stop_outcome : (words : List (List ℕ)) (told : Option TextMap) (left : Option (List ℕ)) (stop : Stop)
     → IfSome told (λ files. IsReadEnd stop ⊎ IsEarly words files (silent (status_of stop)))
@@ -141,36 +138,33 @@ line_outcome words (Some files) None outcome is = tt
 line_outcome words (Some files) (Some text) outcome is = early _ is
 
 module _ (words : List (List ℕ)) (task : Task) (program : ProgramView) where
-  -- the script stops the call
-  pub script_outcome : (told : Option TextMap) (left : Option (List ℕ)) (stop : Stop) → IfSome told (λ files. IsPrepared words files task (Program program))
-      → IsReadEnd stop ⊎ ((stop ≡ NotBuilt) × IfSome left (λ text. text ≢ []))
-      → IfBothTold told left (λ files text. IsReadEnd stop ⊎ IsOutcome words files text (silent (status_of stop)))
-  script_outcome None left stop prepared ends = tt
-  script_outcome (Some files) None stop prepared ends = tt
-  script_outcome (Some files) (Some text) stop prepared (inl read) = inl read
-  script_outcome (Some files) (Some text) stop (settings, limit, has, holds) (inr (is, some)) = inr (rw is (scripted settings program has holds some))
-
-  -- the analysis
-  pub analysis_outcome : (told : Option TextMap) (left : Option (List ℕ)) (result : Result Output Stop)
-      → IfSome told (λ files. IsPrepared words files task (Program program)) → IfSome left (λ text. text ≡ [])
-      → IfOk result (λ output. IsAnalysed (domain_of task) program task.rows (outcome_of output)) → IfErr result (λ stop. stop ≡ Memory)
-      → IfBothTold told left (λ files text. IsOutcomeOf words files text result)
-  analysis_outcome None left result prepared empty made stops = tt
-  analysis_outcome (Some files) None result prepared empty made stops = tt
-  analysis_outcome (Some files) (Some text) (Ok output) (settings, same, has, holds) empty made stops =
-      analysed settings program _ (record { loaded = has; built = holds; empty = empty }) (subst (λ t. IsAnalysed (domain_of t) program t.rows (outcome_of output)) (sym same) made)
-  analysis_outcome (Some files) (Some text) (Err stop) prepared empty made stops = inl (inr stops)
+  -- the script makes the plan, or stops the call
+  pub script_plan : (told : Option TextMap) (left : Option (List ℕ)) (result : Result Plan Stop) → IfSome told (λ files. IsPrepared words files task (Program program))
+      → IfSome left (λ text. MatchResult result (IsScripted task program text) (λ stop. IsReadEnd stop ⊎ IsByScript text (silent (status_of stop))))
+      → IfBothTold told left (λ files text. MatchResult result (IsPlan words files text) (λ stop. IsReadEnd stop ⊎ IsOutcome words files text (silent (status_of stop))))
+  script_plan None left result prepared made = tt
+  script_plan (Some files) None result prepared made = tt
+  script_plan (Some files) (Some text) (Ok (Line bytes)) (settings, same, has, holds) made = by_script settings program _ (record { loaded = has; built = holds }) made
+  script_plan (Some files) (Some text) (Ok (Blocks own loaded items)) (settings, same, has, holds) (is_task, is_program, edits) =
+      (settings, same ∙ sym is_task, subst (IsLoaded words files settings) (sym is_program) (record { loaded = has; built = holds }), edits)
+  script_plan (Some files) (Some text) (Err stop) prepared (inl read) = inl read
+  script_plan (Some files) (Some text) (Err stop) (settings, same, has, holds) (inr is) = inr (by_script settings program _ (record { loaded = has; built = holds }) is)
 
   -- nothing is decided early
-  pub program_keeps_early : (told : Option TextMap) (result : Result Output Stop) (P : Type 0)
+  pub program_keeps_early : (told : Option TextMap) (result : Result Plan Stop) (P : Type 0)
       → IfSome told (λ files. IsPrepared words files task (Program program)) → IfSome told (λ files. KeepsEarly words files result P)
   program_keeps_early None result P prepared = tt
   program_keeps_early (Some files) result P (settings, same, has, holds) = λ outcome is. absurd (program_not_early words files settings program has holds outcome is)
 
-pub line_keeps_early : (words : List (List ℕ)) (told : Option TextMap) (output : Output) (P : Type 0) → IfSome told (λ files. IsEarly words files (outcome_of output))
-    → IfSome told (λ files. KeepsEarly words files (Ok output) P)
-line_keeps_early words None output P is = tt
-line_keeps_early words (Some files) output P is = λ outcome other. early_is_one words files _ outcome is other
+  pub program_unread : (told : Option TextMap) (P : Type 0) → IfSome told (λ files. IsPrepared words files task (Program program))
+      → IfSome told (λ files. (outcome : Outcome) → IsEarly words files outcome → P)
+  program_unread None P prepared = tt
+  program_unread (Some files) P (settings, same, has, holds) = λ outcome is. absurd (program_not_early words files settings program has holds outcome is)
+
+pub line_keeps_early : (words : List (List ℕ)) (told : Option TextMap) (bytes : Vec ℕ Global) (P : Type 0) → IfSome told (λ files. IsEarly words files (line bytes.items))
+    → IfSome told (λ files. KeepsEarly words files (Ok (Line bytes)) P)
+line_keeps_early words None bytes P is = tt
+line_keeps_early words (Some files) bytes P is = λ outcome other. early_is_one words files _ outcome is other
 
 pub stop_keeps_early : (words : List (List ℕ)) (told : Option TextMap) (stop : Stop) (P : Type 0)
     → IfSome told (λ files. IsReadEnd stop ⊎ IsEarly words files (silent (status_of stop))) → ((stop ≡ ReadFault) → P)
@@ -179,3 +173,4 @@ stop_keeps_early words None stop P ends failed = tt
 stop_keeps_early words (Some files) stop P (inl (inl fault)) failed = λ outcome other. inr (inl (fault, failed fault))
 stop_keeps_early words (Some files) stop P (inl (inr memory)) failed = λ outcome other. inr (inr memory)
 stop_keeps_early words (Some files) stop P (inr is) failed = λ outcome other. inl (early_is_one words files _ outcome is other)
+

@@ -1,39 +1,27 @@
--- How a call ends, from what it made and what was written.
-use Rattle.std.proofs.Common.{arith, ◌≡◌, ◌≢◌, ◌≤◌, ℕ, List, [], None, Some, IfSome, Err, length, take, refl, sym, ap, ◌∙◌, subst, inl, inr}
+-- How a call ends, from what it is to do and what was written.
+use Rattle.std.proofs.Common.{arith, ◌≡◌, ◌≢◌, ◌⊎◌, ℕ, List, [], ◌∷◌, ◌++◌, None, Some, IfSome, Result, Ok, Err, take, refl, sym, ap, ◌∙◌, subst, inl, inr}
 use Rattle.std.proofs.lemmas.List.{append-nil}
 use Rattle.std.specs.Io.KnownBytes.{Appends, Keeps}
 use Rattle.std.specs.declared.option.Option.{Option}
 use Rattle.plai_base.specs.Texts.{TextMap}
-use Rattle.plai_top.specs.Ending.{EndsBy, EndsByEach, EndsEarly}
-use Rattle.plai_top.specs.Outcome.{Outcome, IsByWords, no_command, not_built, too_many, IsEarly, by_words, too_long, refused, unbuilt, IsOutcome, OutcomeIsOne}
-use Rattle.plai_top.specs.Outputs.{outcome_of, KeepsEarly}
-use Rattle.plai_top.specs.Stops.{status_of}
+use Rattle.plai_clauses.specs.Program.{ProgramView}
+use Rattle.plai_clauses.specs.declared.edit_cause.EditCause.{EditCause}
+use Rattle.plai_script.specs.declared.edit.Edit.{Edit}
+use Rattle.plai_session.specs.Programs.{behind}
+use Rattle.plai_words.specs.declared.types.Settings.{Settings}
+use Rattle.plai_top.specs.Blocks.{Block, table, refused, stopped, text_of, texts_from, AreBlocksOf, one_more}
+use Rattle.plai_top.specs.Ending.{Comes, EndsBy, EndsByEach, EndsEarly, IsFault, IsFaultOrComes}
+use Rattle.plai_top.specs.Outcome.{Outcome, silent, line, done, IsByWords, no_command, not_built, too_many, IsEarly, by_words, too_long, unbuilt, IsLoaded, HasEdits, AreBlocks, IsOutcome, OutcomeIsOne}
+use Rattle.plai_top.specs.Outcome as outcomes
+use Rattle.plai_top.specs.Plans.{IsPlan, IsFitPlan, IsLineOf, KeepsEarly, CarriesOut, IsPlanStop}
+use Rattle.plai_top.specs.Stops.{status_of, IsReadEnd}
+use Rattle.plai_top.specs.Tasks.{domain_of, task_of}
 use Rattle.plai_top.specs.Told.{IfBothTold}
-use Rattle.plai_top.specs.declared.output.Output.{Output}
+use Rattle.plai_top.specs.declared.plan.Plan.{Plan}
+use Rattle.plai_top.specs.declared.plan.Plan.TheVariants.{Line, Blocks}
 use Rattle.plai_top.specs.declared.stop.Stop.{Stop}
-
--- a call that ended by one outcome ended by each, but for the other block
-each_by : (one : OutcomeIsOne) (words : List (List ℕ)) (files : TextMap) (script : List ℕ) (result : ℕ) (before after : Option (List ℕ)) (first : Outcome)
-    → IsOutcome words files script first → EndsBy result before after first → EndsByEach words files script result before after
-each_by one words files script result before after first is ends outcome other =
-    elim (one words files script first outcome is other) [
-      | inl same ↦ inl (subst (EndsBy result before after) same ends)
-      | inr blocks ↦ inr (blocks.1, (first, is, blocks.0, ends))
-    ]
-
-module _ (one : OutcomeIsOne) (words : List (List ℕ)) (before after : Option (List ℕ)) where
-  -- a write failed
-  pub write_every : (told : Option TextMap) (left : Option (List ℕ)) (output : Output) (seen : List ℕ)
-      → IfBothTold told left (λ files text. IsOutcome words files text (outcome_of output)) → output.bytes.items ≢ [] → seen ≡ output.bytes.items
-      → ((n : ℕ) × (n ≤ length seen) × Appends before after (take n seen))
-      → IfBothTold told left (λ files text. EndsByEach words files text 6 before after)
-  write_every None left output seen is some same took = tt
-  write_every (Some files) None output seen is some same took = tt
-  write_every (Some files) (Some text) output seen is some same (n, within, took) =
-      each_by one words files text 6 before after (outcome_of output) is
-      (inr (inr (inl (refl, some, (n, subst (λ bytes. Appends before after (take n bytes)) same took)))))
-
--- ---- what is decided early
+use Rattle.plai_top.specs.declared.task.Task.{Task}
+use Rattle.plai_top.proofs.Outcomes.{outcome_blocks}
 
 -- nothing was written
 nothing_appended : (taken : Option (List ℕ)) → Appends taken taken []
@@ -44,6 +32,122 @@ all_kept : (taken : Option (List ℕ)) → Keeps taken taken
 all_kept None = tt
 all_kept (Some bytes) = refl
 
+-- ---- texts of blocks have bytes
+
+not_empty : (x : ℕ) (xs : List ℕ) → (x ∷ xs) ≢ []
+not_empty x xs e = cc
+
+block_not_empty : (number : ℕ) (block : Block) (more : List ℕ) → text_of number block ++ more ≢ []
+block_not_empty number (table rows) more = not_empty _ _
+block_not_empty number (refused cause) more = not_empty _ _
+block_not_empty number (stopped limit) more = not_empty _ _
+
+blocks_not_empty : (blocks : List Block) → blocks ≢ [] → texts_from 0 blocks ≢ []
+blocks_not_empty [] some = absurd (some refl)
+blocks_not_empty (block ∷ blocks) some = block_not_empty 0 block (texts_from 1 blocks)
+
+module _ (words : List (List ℕ)) (files : TextMap) (script : List ℕ) where
+  -- ---- a plan that is carried out
+
+  task_blocks : (settings : Settings) (task : Task) (program : ProgramView) (items : List (Result Edit EditCause)) (blocks : List Block) → task_of settings ≡ task
+      → AreBlocksOf (domain_of task) task.rows (Ok program ∷ behind program items) blocks → AreBlocks settings program items blocks
+  task_blocks settings task program items blocks same are =
+      subst (λ t. AreBlocksOf (domain_of t) t.rows (Ok program ∷ behind program items) blocks) (sym same) are
+
+  blocks_task : (settings : Settings) (task : Task) (program : ProgramView) (items : List (Result Edit EditCause)) (blocks : List Block) → task_of settings ≡ task
+      → AreBlocks settings program items blocks → AreBlocksOf (domain_of task) task.rows (Ok program ∷ behind program items) blocks
+  blocks_task settings task program items blocks same are =
+      subst (λ t. AreBlocksOf (domain_of t) t.rows (Ok program ∷ behind program items) blocks) same are
+
+  some_blocks : (settings : Settings) (program : ProgramView) (items : List (Result Edit EditCause)) (blocks : List Block) → AreBlocks settings program items blocks → blocks ≢ []
+  some_blocks settings program items blocks (one_more _ block _ rest is are) e = let wrong : (block ∷ rest) ≡ [] = e in cc
+
+  module _ (before after : Option (List ℕ)) where
+    carried_comes : (plan : Plan) (status : ℕ) → IsPlan words files script plan → CarriesOut before after plan (Ok status)
+        → (outcome : Outcome) × IsOutcome words files script outcome × Comes status before after outcome
+    carried_comes (Line bytes) status is (three, took) = (line bytes.items, is, (three, took))
+    carried_comes (Blocks task program items) status (settings, same, loaded, has) (them, are, is_status, took) =
+        (done them, outcomes.blocks settings program items.items them loaded has (task_blocks settings task program items.items them same are), (is_status, took))
+
+    module _ (one : OutcomeIsOne) where
+      carried_each : (plan : Plan) (status : ℕ) → IsPlan words files script plan → CarriesOut before after plan (Ok status) → EndsByEach words files script status before after
+      carried_each plan status is carried outcome has =
+          let (other, also, comes) = carried_comes plan status is carried in
+          (other, also, one words files script outcome other has also, inl comes)
+
+      cut_each : (plan : Plan) (stop : Stop) → IsPlan words files script plan → IsFitPlan plan → CarriesOut before after plan (Err stop)
+          → EndsByEach words files script (status_of stop) before after
+      cut_each (Line bytes) stop is some (fault, first) outcome has =
+          (line bytes.items, is, one words files script outcome (line bytes.items) has is, inr (inr (inl (ap status_of fault, some, first))))
+      cut_each (Blocks task program items) stop (settings, same, loaded, has) fit (cause, cut) outcome is =
+          let (them, are, own) = outcome_blocks words files script settings program items.items loaded has outcome is in
+          let (others, also, first) = cut them (blocks_task settings task program items.items them same are) in
+          let of_settings : AreBlocks settings program items.items others = task_blocks settings task program items.items others same also in
+          let other : IsOutcome words files script (done others) = outcomes.blocks settings program items.items others loaded has of_settings in
+          (done others, other, one words files script outcome (done others) is other, elim cause [
+            | inl memory ↦ inr (inr (inr (ap status_of memory, first)))
+            | inr fault ↦ inr (inr (inl (ap status_of fault, blocks_not_empty others (some_blocks settings program items.items others of_settings), first)))
+          ])
+
+  -- ---- a stop before there is a plan
+
+  stop_each : (one : OutcomeIsOne) (taken : Option (List ℕ)) (stop : Stop) → IsReadEnd stop ⊎ IsOutcome words files script (silent (status_of stop))
+      → EndsByEach words files script (status_of stop) taken taken
+  stop_each one taken stop (inl (inl fault)) outcome has = (outcome, has, inl refl, inr (inl (ap status_of fault, all_kept taken)))
+  stop_each one taken stop (inl (inr memory)) outcome has = (outcome, has, inl refl, inr (inr (inr (ap status_of memory, (0, nothing_appended taken)))))
+  stop_each one taken stop (inr is) outcome has =
+      (silent (status_of stop), is, one words files script outcome (silent (status_of stop)) has is, inl (refl, nothing_appended taken))
+
+  stop_whole : (taken : Option (List ℕ)) (stop : Stop) → IsReadEnd stop ⊎ IsOutcome words files script (silent (status_of stop))
+      → IsFaultOrComes words files script (status_of stop) taken taken
+  stop_whole taken stop (inl (inl fault)) = inl (inl (ap status_of fault))
+  stop_whole taken stop (inl (inr memory)) = inl (inr (inr (ap status_of memory)))
+  stop_whole taken stop (inr is) = inr (silent (status_of stop), is, (refl, nothing_appended taken))
+
+-- ---- where library and script tell
+
+module _ (words : List (List ℕ)) (before after : Option (List ℕ)) (plan : Plan) where
+  pub plan_whole : (told : Option TextMap) (left : Option (List ℕ)) (status : ℕ) → IfBothTold told left (λ files text. IsPlan words files text plan)
+      → CarriesOut before after plan (Ok status) → IfBothTold told left (λ files text. IsFaultOrComes words files text status before after)
+  plan_whole None left status is carried = tt
+  plan_whole (Some files) None status is carried = tt
+  plan_whole (Some files) (Some text) status is carried = inr (carried_comes words files text before after plan status is carried)
+
+  pub plan_every : (one : OutcomeIsOne) (told : Option TextMap) (left : Option (List ℕ)) (status : ℕ) → IfBothTold told left (λ files text. IsPlan words files text plan)
+      → CarriesOut before after plan (Ok status) → IfBothTold told left (λ files text. EndsByEach words files text status before after)
+  plan_every one None left status is carried = tt
+  plan_every one (Some files) None status is carried = tt
+  plan_every one (Some files) (Some text) status is carried = carried_each words files text before after one plan status is carried
+
+  pub cut_whole : (told : Option TextMap) (left : Option (List ℕ)) (stop : Stop) → IsPlanStop stop
+      → IfBothTold told left (λ files text. IsFaultOrComes words files text (status_of stop) before after)
+  cut_whole None left stop is = tt
+  cut_whole (Some files) None stop is = tt
+  cut_whole (Some files) (Some text) stop (inl fault) = inl (inr (inl (ap status_of fault)))
+  cut_whole (Some files) (Some text) stop (inr memory) = inl (inr (inr (ap status_of memory)))
+
+  pub cut_every : (one : OutcomeIsOne) (told : Option TextMap) (left : Option (List ℕ)) (stop : Stop) → IfBothTold told left (λ files text. IsPlan words files text plan)
+      → IsFitPlan plan → CarriesOut before after plan (Err stop) → IfBothTold told left (λ files text. EndsByEach words files text (status_of stop) before after)
+  cut_every one None left stop is fit carried = tt
+  cut_every one (Some files) None stop is fit carried = tt
+  cut_every one (Some files) (Some text) stop is fit carried = cut_each words files text before after one plan stop is fit carried
+
+module _ (words : List (List ℕ)) (taken : Option (List ℕ)) (stop : Stop) where
+  pub stopped_whole : (told : Option TextMap) (left : Option (List ℕ)) → IfBothTold told left (λ files text. IsReadEnd stop ⊎ IsOutcome words files text (silent (status_of stop)))
+      → IfBothTold told left (λ files text. IsFaultOrComes words files text (status_of stop) taken taken)
+  stopped_whole None left ends = tt
+  stopped_whole (Some files) None ends = tt
+  stopped_whole (Some files) (Some text) ends = stop_whole words files text taken stop ends
+
+  pub stopped_every : (one : OutcomeIsOne) (told : Option TextMap) (left : Option (List ℕ))
+      → IfBothTold told left (λ files text. IsReadEnd stop ⊎ IsOutcome words files text (silent (status_of stop)))
+      → IfBothTold told left (λ files text. EndsByEach words files text (status_of stop) taken taken)
+  stopped_every one None left ends = tt
+  stopped_every one (Some files) None ends = tt
+  stopped_every one (Some files) (Some text) ends = stop_each words files text one taken stop ends
+
+-- ---- what is decided early
+
 -- words and files decide no fault
 no_word_fault : (words : List (List ℕ)) (outcome : Outcome) → IsByWords words outcome → outcome.status ≡ 5 → ⊥
 no_word_fault words outcome (no_command none) five = omega arith
@@ -53,11 +157,11 @@ no_word_fault words outcome (too_many settings some holds many) five = omega ari
 no_early_fault : (words : List (List ℕ)) (files : TextMap) (outcome : Outcome) → IsEarly words files outcome → outcome.status ≡ 5 → ⊥
 no_early_fault words files outcome (by_words _ is) five = no_word_fault words outcome is five
 no_early_fault words files outcome (too_long settings command long) five = omega arith
-no_early_fault words files outcome (refused settings refusal has) five = omega arith
+no_early_fault words files outcome (outcomes.refused settings refusal has) five = omega arith
 no_early_fault words files outcome (unbuilt settings program has fails) five = omega arith
 
 module _ (words : List (List ℕ)) (P : Type 0) where
-  -- the call stopped before there was an output
+  -- the call stopped before there was a plan
   pub stopped_early : (told : Option TextMap) (stop : Stop) (taken : Option (List ℕ)) → IfSome told (λ files. KeepsEarly words files (Err stop) P)
       → IfSome told (λ files. EndsEarly words files (status_of stop) taken taken P)
   stopped_early None stop taken keeps = tt
@@ -69,3 +173,27 @@ module _ (words : List (List ℕ)) (P : Type 0) where
     | inr (inl fault) ↦ (inr (inl (ap status_of fault.0, all_kept taken)), λ five. fault.1)
     | inr (inr memory) ↦ (inr (inr (inr (ap status_of memory, (0, nothing_appended taken)))), λ five. absurd (let e : 7 ≡ 5 = sym (ap status_of memory) ∙ five in omega arith))
   ]
+
+  module _ (before after : Option (List ℕ)) where
+    carried_line : (plan : Plan) (status : ℕ) (outcome : Outcome) → IsLineOf outcome plan → CarriesOut before after plan (Ok status)
+        → EndsBy status before after outcome × (status ≡ 5 → P)
+    carried_line (Line bytes) status outcome is (three, took) =
+        (inl (three ∙ ap (λ o. o.status) is, subst (Appends before after) (ap (λ o. o.bytes) is) took), λ five. absurd (omega arith))
+    carried_line (Blocks task program items) status outcome is carried = absurd is
+
+    cut_line : (plan : Plan) (stop : Stop) (outcome : Outcome) → IsLineOf outcome plan → IsFitPlan plan → CarriesOut before after plan (Err stop)
+        → EndsBy (status_of stop) before after outcome × (status_of stop ≡ 5 → P)
+    cut_line (Line bytes) stop outcome is some (fault, (n, took)) =
+        (inr (inr (inl (ap status_of fault, subst (λ l. l ≢ []) (ap (λ o. o.bytes) is) some, (n, subst (λ l. Appends before after (take n l)) (ap (λ o. o.bytes) is) took)))),
+         λ five. absurd (let e : 6 ≡ 5 = sym (ap status_of fault) ∙ five in omega arith))
+    cut_line (Blocks task program items) stop outcome is some carried = absurd is
+
+    pub plan_early : (told : Option TextMap) (plan : Plan) (status : ℕ) → IfSome told (λ files. KeepsEarly words files (Ok plan) P) → CarriesOut before after plan (Ok status)
+        → IfSome told (λ files. EndsEarly words files status before after P)
+    plan_early None plan status keeps carried = tt
+    plan_early (Some files) plan status keeps carried = λ outcome is. carried_line plan status outcome (keeps outcome is) carried
+
+    pub cut_early : (told : Option TextMap) (plan : Plan) (stop : Stop) → IfSome told (λ files. KeepsEarly words files (Ok plan) P) → IsFitPlan plan
+        → CarriesOut before after plan (Err stop) → IfSome told (λ files. EndsEarly words files (status_of stop) before after P)
+    cut_early None plan stop keeps fit carried = tt
+    cut_early (Some files) plan stop keeps fit carried = λ outcome is. cut_line plan stop outcome (keeps outcome is) fit carried

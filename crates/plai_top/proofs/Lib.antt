@@ -1,5 +1,8 @@
-mod Analysed
+mod Answering
 mod Deciding
 mod Endings
+mod Opened
 mod Outcomes
 mod Reading
+mod Scripts
+mod Written

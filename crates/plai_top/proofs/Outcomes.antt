@@ -1,16 +1,22 @@
 -- A call has one outcome at most, but that a stop may come beside a table or the other stop.
-use Rattle.std.proofs.Common.{◌≡◌, ◌≢◌, ◌≤◌, ◌⊎◌, ℕ, List, Bool, Option, None, Some, Result, Ok, Err, true, false, length, refl, sym, ◌∙◌, ap, subst, arith, inl, inr}
+use Rattle.std.proofs.Common.{◌≡◌, ◌≤◌, ◌⊎◌, ℕ, List, ◌∷◌, Bool, Option, None, Some, Result, Ok, Err, true, false, length, refl, sym, ◌∙◌, ap, subst, arith, inl, inr}
 use Rattle.plai_base.specs.Texts.{TextMap, text_of, longest_text}
 use Rattle.plai_terms.specs.declared.plain_row.PlainRow.{PlainRow}
-use Rattle.plai_domain.specs.Plain.{PlainDomain}
 use Rattle.plai_clauses.specs.Program.{ProgramView}
+use Rattle.plai_clauses.specs.declared.edit_cause.EditCause.{EditCause}
 use Rattle.plai_eval.specs.LeastTable.{IsLeastTable}
 use Rattle.plai_modules.specs.Loading.{Refusal, loaded}
+use Rattle.plai_script.specs.Checks.{is_without_checks}
+use Rattle.plai_script.specs.Scripts.{ScriptRefusal, script_of}
+use Rattle.plai_script.specs.declared.edit.Edit.{Edit}
+use Rattle.plai_session.specs.Programs.{behind}
 use Rattle.plai_words.specs.Command.{settings_of}
 use Rattle.plai_words.specs.declared.types.Settings.{Settings}
 use Rattle.plai_top.specs.Commands.{most_files, is_built_command, IsCommand}
 use Rattle.plai_top.specs.Files.{texts_of, IsSomeLong, is_built_program, HasFiles, HasProgram, HasRefusal}
-use Rattle.plai_top.specs.Outcome.{Outcome, done, refused_by, IsByWords, no_command, not_built, too_many, IsEarly, by_words, too_long, refused, unbuilt, IsAnalysed, table, many_rows, large_sets, early, scripted, analysed, IsBlock, IsStop, OutcomeIsOne}
+use Rattle.plai_top.specs.Blocks.{Block, table, AreBlocksOf, no_more, one_more, IsBlockOf, is_table_of, many_rows, large_sets, is_refused, AreSameUpToStops, none_left, same_block, stop_before, stop_behind}
+use Rattle.plai_top.specs.Outcome.{Outcome, line, done, refused_by, IsByWords, no_command, not_built, too_many, IsEarly, by_words, too_long, refused, unbuilt, IsLoaded, longest_script, IsByScript, script_too_long, script_refused, script_unbuilt, HasEdits, AreBlocks, IsOutcome, early, by_script, blocks, OutcomeIsOne}
+use Rattle.plai_top.specs.Refused.{script_refusal_text}
 use Rattle.plai_top.specs.Tasks.{domain_of, task_of}
 use Rattle.plai_top.specs.declared.task.Task.{Task}
 
@@ -113,45 +119,89 @@ module _ (words : List (List ℕ)) where
     program_not_early s program one holds outcome (refused t refusal two) = program_and_refusal s t program refusal one two
     program_not_early s program one holds outcome (unbuilt t other two fails) = built_program_twice s t program other one two holds fails
 
-    pub same_task : (s t : Settings) (program other : ProgramView) → HasProgram words files s program → HasProgram words files t other → task_of s ≡ task_of t
-    same_task s t program other one two = ap task_of (same_command s t one.given.command two.given.command)
+    pub same_loaded_settings : (s t : Settings) (program other : ProgramView) → HasProgram words files s program → HasProgram words files t other → s ≡ t
+    same_loaded_settings s t program other one two = same_command s t one.given.command two.given.command
+
+-- ---- the script
+
+no_items : (script : List ℕ) (refusal : ScriptRefusal) (items : List (Result Edit EditCause)) → script_of script ≡ Err refusal → script_of script ≡ Ok items → ⊥
+no_items script refusal items err ok = let e : ◌≡◌ {A = Result (List (Result Edit EditCause)) ScriptRefusal} (Err refusal) (Ok items) = sym err ∙ ok in cc
+
+same_script_refusal : (script : List ℕ) (one two : ScriptRefusal) → script_of script ≡ Err one → script_of script ≡ Err two → one ≡ two
+same_script_refusal script one two first second =
+    let e : ◌≡◌ {A = Result (List (Result Edit EditCause)) ScriptRefusal} (Err one) (Err two) = sym first ∙ second in cc
+
+same_items : (script : List ℕ) (items others : List (Result Edit EditCause)) → script_of script ≡ Ok items → script_of script ≡ Ok others → items ≡ others
+same_items script items others first second =
+    let e : ◌≡◌ {A = Result (List (Result Edit EditCause)) ScriptRefusal} (Ok items) (Ok others) = sym first ∙ second in cc
+
+-- what the script decides is decided once
+script_is_one : (script : List ℕ) (first second : Outcome) → IsByScript script first → IsByScript script second → first ≡ second
+script_is_one script first second (script_too_long long) (script_too_long also) = refl
+script_is_one script first second (script_too_long long) (script_refused refusal short is) = absurd (omega arith)
+script_is_one script first second (script_too_long long) (script_unbuilt items short is fails) = absurd (omega arith)
+script_is_one script first second (script_refused refusal short is) (script_too_long long) = absurd (omega arith)
+script_is_one script first second (script_refused refusal short is) (script_refused other also two) = ap (λ r. line (script_refusal_text r)) (same_script_refusal script refusal other is two)
+script_is_one script first second (script_refused refusal short is) (script_unbuilt items also two fails) = absurd (no_items script refusal items is two)
+script_is_one script first second (script_unbuilt items short is fails) (script_too_long long) = absurd (omega arith)
+script_is_one script first second (script_unbuilt items short is fails) (script_refused refusal also two) = absurd (no_items script refusal items two is)
+script_is_one script first second (script_unbuilt items short is fails) (script_unbuilt others also two neither) = refl
+
+-- the script decides nothing where its edits are carried out
+not_by_script : (script : List ℕ) (items : List (Result Edit EditCause)) → HasEdits script items → (outcome : Outcome) → IsByScript script outcome → ⊥
+not_by_script script items has outcome (script_too_long long) = let short : length script ≤ longest_script = has.short in omega arith
+not_by_script script items has outcome (script_refused refusal short is) = no_items script refusal items is has.read
+not_by_script script items has outcome (script_unbuilt others short is fails) =
+    not_both (is_without_checks others) (subst (λ xs. is_without_checks xs ≡ true) (same_items script items others has.read is) has.built) fails
+
+-- ---- the blocks
+
+module _ (words : List (List ℕ)) (files : TextMap) (script : List ℕ) where
+  -- behind a loaded program and the edits of a script an outcome is blocks of them
+  pub outcome_blocks : (settings : Settings) (program : ProgramView) (items : List (Result Edit EditCause)) → IsLoaded words files settings program → HasEdits script items
+      → (outcome : Outcome) → IsOutcome words files script outcome → (them : List Block) × AreBlocks settings program items them × (outcome ≡ done them)
+  outcome_blocks settings program items loaded has outcome (early _ is) = absurd (program_not_early words files settings program loaded.loaded loaded.built outcome is)
+  outcome_blocks settings program items loaded has outcome (by_script other_settings other _ also is) = absurd (not_by_script script items has outcome is)
+  outcome_blocks settings program items loaded has outcome (blocks other_settings other others them also has_others are) =
+      let s : other_settings ≡ settings = same_loaded_settings words files other_settings settings other program also.loaded loaded.loaded in
+      let p : other ≡ program = same_program words files other_settings settings other program also.loaded loaded.loaded in
+      let i : others ≡ items = same_items script others items has_others.read has.read in
+      let with_settings : AreBlocks settings other others them = subst (λ x. AreBlocks x other others them) s are in
+      let with_program : AreBlocks settings program others them = subst (λ x. AreBlocks settings x others them) p with_settings in
+      (them, subst (λ x. AreBlocks settings program x them) i with_program, refl)
 
 module _ (table_one : (task : Task) (program : ProgramView) (rows others : List PlainRow) → IsLeastTable (domain_of task) program rows
     → IsLeastTable (domain_of task) program others → rows ≡ others) where
-  abbrev AreOne : Outcome → Outcome → Type 0
-  AreOne first second = (first ≡ second) ⊎ (IsBlock first × IsBlock second × (IsStop first ⊎ IsStop second))
+  same_table : (task : Task) (program : ProgramView) (rows others : List PlainRow) (rest also : List Block) → IsLeastTable (domain_of task) program rows
+      → IsLeastTable (domain_of task) program others → AreSameUpToStops rest also → AreSameUpToStops (table rows ∷ rest) (table others ∷ also)
+  same_table task program rows others rest also least too are =
+      subst (λ x. AreSameUpToStops (table rows ∷ rest) (table x ∷ also)) (table_one task program rows others least too) (same_block (table rows) rest also are)
 
-  -- an outcome of an analysis is a table within the limit, or a block that names a limit
-  stop_first : (first second : Outcome) → IsStop first → IsBlock second → AreOne first second
-  stop_first first second is block = inr (omega arith, block, inl is)
+  -- two blocks of the same are the same, or one is a stop
+  one_block : (task : Task) (limit : ℕ) (given : Result ProgramView EditCause) (block other : Block) (rest also : List Block) → IsBlockOf (domain_of task) limit given block
+      → IsBlockOf (domain_of task) limit given other → AreSameUpToStops rest also → AreSameUpToStops (block ∷ rest) (other ∷ also)
+  one_block task limit given block other rest also (is_table_of program rows least within not_over) (is_table_of _ others too kept neither) are =
+      same_table task program rows others rest also least too are
+  one_block task limit given block other rest also (is_table_of program rows least within not_over) (many_rows _ more) are = stop_behind (Some limit) block rest also are
+  one_block task limit given block other rest also (is_table_of program rows least within not_over) (large_sets _ over) are = stop_behind None block rest also are
+  one_block task limit given block other rest also (many_rows program more) two are = stop_before (Some limit) other rest also are
+  one_block task limit given block other rest also (large_sets program over) two are = stop_before None other rest also are
+  one_block task limit given block other rest also (is_refused cause) (is_refused _) are = same_block block rest also are
 
-  stop_second : (first second : Outcome) → IsBlock first → IsStop second → AreOne first second
-  stop_second first second block is = inr (block, omega arith, inr is)
+  all_blocks : (task : Task) (limit : ℕ) (givens : List (Result ProgramView EditCause)) (them others : List Block) → AreBlocksOf (domain_of task) limit givens them
+      → AreBlocksOf (domain_of task) limit givens others → AreSameUpToStops them others
+  all_blocks task limit givens them others no_more no_more = none_left
+  all_blocks task limit givens them others (one_more given block rest own is are) (one_more _ other _ theirs also too) =
+      one_block task limit given block other own theirs is also (all_blocks task limit rest own theirs are too)
 
-  analysed_block : (p : PlainDomain) (program : ProgramView) (limit : ℕ) (outcome : Outcome) → IsAnalysed p program limit outcome → IsBlock outcome
-  analysed_block p program limit outcome (table rows least within not_over) = omega arith
-  analysed_block p program limit outcome (many_rows more) = omega arith
-  analysed_block p program limit outcome (large_sets over) = omega arith
-
-  analysis_is_one : (task : Task) (program : ProgramView) (first second : Outcome) → IsAnalysed (domain_of task) program task.rows first
-      → IsAnalysed (domain_of task) program task.rows second → AreOne first second
-  analysis_is_one task program first second (table rows least within not_over) (table others also kept neither) = inl (ap done (table_one task program rows others least also))
-  analysis_is_one task program first second (table rows least within not_over) (many_rows more) = stop_second _ _ (omega arith) refl
-  analysis_is_one task program first second (table rows least within not_over) (large_sets over) = absurd (not_over over)
-  analysis_is_one task program first second (many_rows more) other = stop_first _ _ refl (analysed_block _ program _ second other)
-  analysis_is_one task program first second (large_sets over) other = stop_first _ _ refl (analysed_block _ program _ second other)
-
+  -- what is decided before the analysis is decided once
   pub one_outcome : OutcomeIsOne
   one_outcome words files script first second (early _ one) (early _ two) = inl (early_is_one words files first second one two)
-  one_outcome words files script first second (early _ one) (scripted t program two holds some) = absurd (program_not_early words files t program two holds first one)
-  one_outcome words files script first second (early _ one) (analysed t program _ ready made) = absurd (program_not_early words files t program ready.loaded ready.built first one)
-  one_outcome words files script first second (scripted s program one holds some) (early _ two) = absurd (program_not_early words files s program one holds second two)
-  one_outcome words files script first second (scripted s program one holds some) (scripted t other two also any) = inl refl
-  one_outcome words files script first second (scripted s program one holds some) (analysed t other _ ready made) = absurd (some ready.empty)
-  one_outcome words files script first second (analysed s program _ ready made) (early _ two) = absurd (program_not_early words files s program ready.loaded ready.built second two)
-  one_outcome words files script first second (analysed s program _ ready made) (scripted t other two also any) = absurd (any ready.empty)
-  one_outcome words files script first second (analysed s program _ ready made) (analysed t other _ also makes) =
-      let same : other ≡ program = sym (same_program words files s t program other ready.loaded also.loaded) in
-      let task : task_of t ≡ task_of s = sym (same_task words files s t program other ready.loaded also.loaded) in
-      let moved : IsAnalysed (domain_of (task_of t)) program t.rows second = subst (λ x. IsAnalysed (domain_of (task_of t)) x t.rows second) same makes in
-      analysis_is_one (task_of s) program first second made (subst (λ x. IsAnalysed (domain_of x) program x.rows second) task moved)
+  one_outcome words files script first second (early _ one) (by_script t other _ loaded two) = absurd (program_not_early words files t other loaded.loaded loaded.built first one)
+  one_outcome words files script first second (early _ one) (blocks t other items them loaded has are) = absurd (program_not_early words files t other loaded.loaded loaded.built first one)
+  one_outcome words files script first second (by_script s program _ loaded one) (early _ two) = absurd (program_not_early words files s program loaded.loaded loaded.built second two)
+  one_outcome words files script first second (by_script s program _ loaded one) (by_script t other _ also two) = inl (script_is_one script first second one two)
+  one_outcome words files script first second (by_script s program _ loaded one) (blocks t other items them also has are) = absurd (not_by_script script items has first one)
+  one_outcome words files script first second (blocks s program items them loaded has are) two =
+      let (others, too, same) = outcome_blocks words files script s program items loaded has second two in
+      inr (them, others, refl, same, all_blocks (task_of s) s.rows (Ok program ∷ behind program items) them others are too)

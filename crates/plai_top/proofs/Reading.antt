@@ -85,29 +85,3 @@ pub long_at : (names : List (List ℕ)) (i : ℕ) (name : List ℕ) (told : Opti
 long_at names i name None below is long = tt
 long_at names i name (Some library) below is long =
     (i, name, below, sym is, long)
-
--- ---- the script
-
--- what was read to the end of a script, behind nothing
-pub empty_script : (left : Option (List ℕ)) (old new : List ℕ) → IfSome left (λ text. new ≡ old ++ text) → old ≡ [] → length new ≡ 0
-    → IfSome left (λ text. text ≡ [])
-empty_script None old new whole none empty = tt
-empty_script (Some text) old new whole none empty = no_bytes text (sym (ap length (whole ∙ ap (λ xs. xs ++ text) none)) ∙ empty)
-  where
-    no_bytes : (text : List ℕ) → length text ≡ 0 → text ≡ []
-    no_bytes [] none = refl
-    no_bytes (byte ∷ bytes) none = absurd (omega arith)
-
-some_bytes : (text : List ℕ) → 0 < length text → text ≢ []
-some_bytes text some none = let e : length text ≡ 0 = ap length none in omega arith
-
-pub full_script : (left : Option (List ℕ)) (old new : List ℕ) → IfSome left (λ text. new ≡ old ++ text) → old ≡ [] → 0 < length new
-    → IfSome left (λ text. text ≢ [])
-full_script None old new whole none some = tt
-full_script (Some text) old new whole none some =
-    let same : length new ≡ length text = ap length (whole ∙ ap (λ xs. xs ++ text) none) in
-    some_bytes text (omega arith)
-
-pub long_script : (left : Option (List ℕ)) (limit : ℕ) → IfSome left (λ text. limit < length text) → IfSome left (λ text. text ≢ [])
-long_script None limit long = tt
-long_script (Some text) limit long = some_bytes text (omega arith)

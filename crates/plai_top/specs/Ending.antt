@@ -3,7 +3,7 @@ use Rattle.std.specs.Prelude.{ℕ, ◌≡◌, ◌≢◌, ◌⊎◌, List, [], ta
 use Rattle.std.specs.Io.KnownBytes.{Appends, Keeps}
 use Rattle.std.specs.declared.option.Option.{Option}
 use Rattle.plai_base.specs.Texts.{TextMap}
-use Rattle.plai_top.specs.Outcome.{Outcome, IsByWords, IsEarly, IsOutcome, IsBlock}
+use Rattle.plai_top.specs.Outcome.{Outcome, IsByWords, IsEarly, IsOutcome, AreOne}
 
 -- a prefix of the bytes was taken
 abbrev pub TookPrefix : Option (List ℕ) → Option (List ℕ) → List ℕ → Type 0
@@ -31,16 +31,11 @@ abbrev pub IsFaultOrComes : List (List ℕ) → TextMap → List ℕ → ℕ →
 IsFaultOrComes words files script result before after =
     IsFault result ⊎ ((outcome : Outcome) × IsOutcome words files script outcome × Comes result before after outcome)
 
--- the outcome is a block, and the call ended by the other block that may come
-abbrev pub EndsByOther : List (List ℕ) → TextMap → List ℕ → ℕ → Option (List ℕ) → Option (List ℕ) → Outcome → Type 0
-EndsByOther words files script result before after outcome =
-    IsBlock outcome × ((other : Outcome) × IsOutcome words files script other × IsBlock other × EndsBy result before after other)
-
--- however the outcome is, the call ended by it, or, where it is a block, by the other block that may come
+-- however the outcome is, the call ended by it, or by one that differs from it in stops alone
 abbrev pub EndsByEach : List (List ℕ) → TextMap → List ℕ → ℕ → Option (List ℕ) → Option (List ℕ) → Type 0
 EndsByEach words files script result before after =
     (outcome : Outcome) → IsOutcome words files script outcome
-    → EndsBy result before after outcome ⊎ EndsByOther words files script result before after outcome
+    → (other : Outcome) × IsOutcome words files script other × AreOne outcome other × EndsBy result before after other
 
 -- what the words decide came, unless memory ran out
 abbrev pub EndsByWords : List (List ℕ) → ℕ → Type 0
@@ -54,10 +49,6 @@ EndsEarly words files result before after LibraryFailed = (outcome : Outcome) �
 -- a status at which nothing is written
 abbrev pub IsSilent : ℕ → Type 0
 IsSilent result = (result ≡ 2) ⊎ (result ≡ 4) ⊎ (result ≡ 5) ⊎ (result ≡ 8)
-
--- a status that is decided before the script is read
-abbrev pub IsBeforeScript : ℕ → Type 0
-IsBeforeScript result = (result ≡ 2) ⊎ (result ≡ 3) ⊎ (result ≡ 4)
 
 -- a status that is decided before the analysis
 abbrev pub IsBeforeWork : ℕ → Type 0

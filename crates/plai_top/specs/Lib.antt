@@ -1,10 +1,15 @@
+pub mod Blocks
 pub mod Commands
 pub mod Ending
 pub mod Files
 pub mod Loadings
 pub mod Outcome
 pub mod Outputs
+pub mod Plans
 pub mod Refusal
+pub mod Refused
+pub mod Scripts
 pub mod Stops
 pub mod Tasks
 pub mod Told
+pub mod Writing

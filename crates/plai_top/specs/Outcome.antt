@@ -1,26 +1,27 @@
 -- The outcome of a call, which is its status and its output, from the words, the files and the script, where nothing
--- fails and there is memory. The words come first, then the number of files, the files, their loading, the script, and
--- the analysis. Its output is the least table of the loaded program under the domain (Muthukumar and Hermenegildo 1992),
--- or the line of the limit that it met.
-use Rattle.std.specs.Prelude.{ℕ, ◌≡◌, ◌≢◌, ◌⊎◌, ◌<◌, ◌≤◌, List, [], true, false, Option, None, Some, length}
+-- fails and there is memory. The words come first, then the number of files, the files, their loading, the script, its
+-- tokens, and the analysis of the loaded program and of the program behind each edit. Its output has a block for each of
+-- them: the least table of that program under the domain (Muthukumar and Hermenegildo 1992), the limit that its analysis
+-- met, or why the edit is refused.
+use Rattle.std.specs.Prelude.{ℕ, ◌≡◌, ◌≢◌, ◌⊎◌, ◌<◌, ◌≤◌, List, [], ◌∷◌, true, false, None, Some, Result, Ok, Err, length}
 use Rattle.plai_base.specs.Texts.{TextMap}
-use Rattle.plai_terms.specs.declared.plain_row.PlainRow.{PlainRow}
-use Rattle.plai_domain.specs.Plain.{PlainDomain}
 use Rattle.plai_clauses.specs.Program.{ProgramView}
-use Rattle.plai_eval.specs.LeastTable.{IsLeastTable}
-use Rattle.plai_eval.specs.Stops.{IsOver}
+use Rattle.plai_clauses.specs.declared.edit_cause.EditCause.{EditCause}
 use Rattle.plai_modules.specs.Loading.{Refusal}
-use Rattle.plai_render.specs.Block.{block_text}
-use Rattle.plai_render.specs.Stopped.{stopped_text}
-use Rattle.plai_rounds.specs.Causes.{AreTooMany}
+use Rattle.plai_script.specs.Checks.{is_without_checks}
+use Rattle.plai_script.specs.Scripts.{ScriptRefusal, script_of}
+use Rattle.plai_script.specs.declared.edit.Edit.{Edit}
+use Rattle.plai_session.specs.Programs.{behind}
 use Rattle.plai_words.specs.Command.{settings_of}
 use Rattle.plai_words.specs.declared.types.Settings.{Settings}
+use Rattle.plai_top.specs.Blocks.{Block, texts_from, status_of_blocks, AreBlocksOf, AreSameUpToStops}
 use Rattle.plai_top.specs.Commands.{most_files, is_built_command, IsCommand}
 use Rattle.plai_top.specs.Files.{IsSomeLong, name_at, is_built_program, HasProgram, HasRefusal}
 use Rattle.plai_top.specs.Refusal.{refusal_text}
+use Rattle.plai_top.specs.Refused.{script_refusal_text}
 use Rattle.plai_top.specs.Tasks.{domain_of, task_of}
 
--- a status and an output
+-- a status and the bytes that are written with it
 pub record Outcome : Type 0 where
   pub status : ℕ
   pub bytes : List ℕ
@@ -29,18 +30,17 @@ pub record Outcome : Type 0 where
 abbrev pub silent : ℕ → Outcome
 silent number = record { status = number; bytes = [] }
 
--- all was done, with this block
-abbrev pub done : List PlainRow → Outcome
-done rows = record { status = 0; bytes = block_text 0 rows }
+-- a line that refuses a file or the script
+abbrev pub line : List ℕ → Outcome
+line text = record { status = 3; bytes = text }
 
--- all was done, and the analysis met a limit: so many rows, or else the groups of a set
-abbrev pub stopped_at : Option ℕ → Outcome
-stopped_at limit = record { status = 1; bytes = stopped_text 0 limit }
+-- all was done, with these blocks
+abbrev pub done : List Block → Outcome
+done blocks = record { status = status_of_blocks blocks; bytes = texts_from 0 blocks }
 
 -- loading refused a term
 abbrev pub refused_by : List (List ℕ) → Refusal → Outcome
-refused_by names refusal =
-    record { status = 3; bytes = refusal_text (name_at names refusal.file) refusal.term refusal.cause }
+refused_by names refusal = line (refusal_text (name_at names refusal.file) refusal.term refusal.cause)
 
 -- the outcomes that the words alone decide
 pub data IsByWords (words : List (List ℕ)) : Outcome → Type 0 where
@@ -57,38 +57,49 @@ pub data IsEarly (words : List (List ℕ)) (files : TextMap) : Outcome → Type 
   unbuilt : (settings : Settings) (program : ProgramView) → HasProgram words files settings program → is_built_program program ≡ false
       → IsEarly words files (silent 8)
 
--- the files are loaded to a program that is analysed as yet, and the script is empty
-pub record IsReady (words : List (List ℕ)) (files : TextMap) (script : List ℕ) (settings : Settings) (program : ProgramView) : Type 0 where
+-- the files are loaded to a program that is analysed as yet
+pub record IsLoaded (words : List (List ℕ)) (files : TextMap) (settings : Settings) (program : ProgramView) : Type 0 where
   pub loaded : HasProgram words files settings program
   pub built : is_built_program program ≡ true
-  pub empty : script ≡ []
 
--- the outcomes of an analysis under a domain with a limit of rows: the least table, where it keeps the limit and no
--- evaluation forms a set of too many groups, or a stop by its cause
-pub data IsAnalysed (p : PlainDomain) (program : ProgramView) (limit : ℕ) : Outcome → Type 0 where
-  table : (rows : List PlainRow) → IsLeastTable p program rows → length rows ≤ limit → (IsOver p program → ⊥) → IsAnalysed p program limit (done rows)
-  many_rows : AreTooMany p program limit → IsAnalysed p program limit (stopped_at (Some limit))
-  large_sets : IsOver p program → IsAnalysed p program limit (stopped_at None)
+-- the most bytes of a script: 16 mebibytes
+abbrev pub longest_script : ℕ
+longest_script = 16777216
+
+-- what the script alone decides, behind a loaded program
+pub data IsByScript (script : List ℕ) : Outcome → Type 0 where
+  script_too_long : longest_script < length script → IsByScript script (silent 4)
+  script_refused : (refusal : ScriptRefusal) → length script ≤ longest_script → script_of script ≡ Err refusal
+      → IsByScript script (line (script_refusal_text refusal))
+  script_unbuilt : (items : List (Result Edit EditCause)) → length script ≤ longest_script → script_of script ≡ Ok items
+      → is_without_checks items ≡ false → IsByScript script (silent 8)
+
+-- the edits of a script that is carried out as yet, which has no edit of a check
+pub record HasEdits (script : List ℕ) (items : List (Result Edit EditCause)) : Type 0 where
+  pub short : length script ≤ longest_script
+  pub read : script_of script ≡ Ok items
+  pub built : is_without_checks items ≡ true
+
+-- the programs that are analysed, the loaded one first, each with the blocks that it may have
+abbrev pub AreBlocks : Settings → ProgramView → List (Result Edit EditCause) → List Block → Type 0
+AreBlocks settings program items = AreBlocksOf (domain_of (task_of settings)) settings.rows (Ok program ∷ behind program items)
 
 -- the outcomes of a call
 pub data IsOutcome (words : List (List ℕ)) (files : TextMap) (script : List ℕ) : Outcome → Type 0 where
   early : (outcome : Outcome) → IsEarly words files outcome → IsOutcome words files script outcome
-  scripted : (settings : Settings) (program : ProgramView) → HasProgram words files settings program → is_built_program program ≡ true
-      → script ≢ [] → IsOutcome words files script (silent 8)
-  analysed : (settings : Settings) (program : ProgramView) (outcome : Outcome) → IsReady words files script settings program
-      → IsAnalysed (domain_of (task_of settings)) program settings.rows outcome → IsOutcome words files script outcome
+  by_script : (settings : Settings) (program : ProgramView) (outcome : Outcome) → IsLoaded words files settings program
+      → IsByScript script outcome → IsOutcome words files script outcome
+  blocks : (settings : Settings) (program : ProgramView) (items : List (Result Edit EditCause)) (blocks : List Block)
+      → IsLoaded words files settings program → HasEdits script items → AreBlocks settings program items blocks
+      → IsOutcome words files script (done blocks)
 
--- the outcome is the one block of an analysis
-abbrev pub IsBlock : Outcome → Type 0
-IsBlock outcome = outcome.status ≤ 1
+-- the same outcome, but that a stop may stand in the place of a block
+abbrev pub AreOne : Outcome → Outcome → Type 0
+AreOne first second = (first ≡ second)
+    ⊎ ((blocks : List Block) × (others : List Block) × (first ≡ done blocks) × (second ≡ done others) × AreSameUpToStops blocks others)
 
--- the block names a limit
-abbrev pub IsStop : Outcome → Type 0
-IsStop outcome = outcome.status ≡ 1
-
--- a call has one outcome at most, but that a stop may come beside a table or the other stop, where names that are not in
--- the table were met on the way
+-- a call has one outcome, but that a stop may come beside a table or the other stop, where names that are not in the table
+-- were met on the way
 abbrev pub OutcomeIsOne : Type 0
 OutcomeIsOne = (words : List (List ℕ)) (files : TextMap) (script : List ℕ) (first second : Outcome)
-    → IsOutcome words files script first → IsOutcome words files script second
-    → (first ≡ second) ⊎ (IsBlock first × IsBlock second × (IsStop first ⊎ IsStop second))
+    → IsOutcome words files script first → IsOutcome words files script second → AreOne first second

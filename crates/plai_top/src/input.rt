@@ -1,19 +1,15 @@
-// The files and the script.
-ghost use Rattle.std.specs.Prelude.{◌≡◌, ◌≢◌, ◌<◌, ◌≤◌, ◌⊎◌, [], All, length, map, IfSome, IfOk, IfErr, OnOk, IsErrOf};
-ghost use Rattle.std.specs.Io.KnownBytes.{IsAtEnd};
+// The files.
+ghost use Rattle.std.specs.Prelude.{◌≡◌, ◌<◌, ◌≤◌, ◌⊎◌, All, length, map, IfSome, IfOk, IfErr, OnOk, IsErrOf};
 ghost use Rattle.plai_base.specs.Causes.{Rose};
 ghost use Rattle.plai_base.specs.Texts.{text_of, longest_text};
 ghost use Rattle.plai_top.specs.Files.{texts_of, AreShort, IsSomeLong};
 ghost use Rattle.plai_top.specs.Stops.{IsReadEnd};
 
 use crate::stop::Stop;
-use plai_base::{Library, ReadFail, Source, Text, read_whole};
+use plai_base::{Library, ReadFail, Text};
 use plai_modules::NamedText;
 use plai_terms::Listed;
 use std::alloc::{AllocError, Global};
-
-/// The most bytes of the script: 16 mebibytes.
-const MAX_SCRIPT: usize = 16_777_216;
 
 /// A text with its name.
 fn named(alloc: Global, name: &Text, text: Vec<u8>) -> Result<NamedText, AllocError>
@@ -75,22 +71,4 @@ pub fn read_files<B: Library>(
         }
     }
     Ok(files)
-}
-
-/// Reads the script to its end, and tests that it has no byte.
-pub fn read_script<S: Source>(alloc: Global, script: &mut S) -> Result<(), Stop>
-    ensures empty { OnOk result (IfSome (S.left script.old) (λ text. text ≡ [])) }
-    ensures end { OnOk result (IsAtEnd (S.left script.new)) }
-    ensures stop { IfErr result (λ stop. IsReadEnd stop ⊎ ((stop ≡ Stop.NotBuilt) × IfSome (S.left script.old) (λ text. text ≢ []))) }
-    ensures later { S.faults script.old ≤ S.faults script.new }
-    ensures failed { IsErrOf result Stop.ReadFault → Rose (S.faults script.old) (S.faults script.new) }
-{
-    let mut text = Vec::new(alloc);
-    match read_whole(script, MAX_SCRIPT, &mut text) {
-        Ok(()) if text.is_empty() => Ok(()),
-        Ok(()) => Err(Stop::NotBuilt),
-        Err(ReadFail::TooLong) => Err(Stop::NotBuilt),
-        Err(ReadFail::Failed) => Err(Stop::ReadFault),
-        Err(ReadFail::Memory) => Err(Stop::Memory),
-    }
 }

@@ -2,11 +2,14 @@
 #![tactic(auto)]
 
 mod analysis;
+mod blocks;
 mod command;
 mod input;
 mod loading;
-mod output;
+mod plan;
 mod refusal;
+mod refused_stub;
+mod script;
 mod stop;
 mod task;
 mod top;

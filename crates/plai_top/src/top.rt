@@ -1,137 +1,75 @@
-// The whole program: the words, the files, their loading, the script, and then the analysis.
-ghost use Rattle.std.specs.Prelude.{◌≡◌, ◌≢◌, ◌≤◌, ◌⊎◌, None, [], IfSome, IfOk, IfErr, MatchResult, OnOk, IsErrOf};
+// The whole program: all that is read, and then the blocks.
+ghost use Rattle.std.specs.Prelude.{◌≡◌, ◌≤◌, ◌⊎◌, None, IfSome, IfOk, IfErr, IsErrOf};
 ghost use Rattle.std.specs.Io.KnownBytes.{Keeps, IsAtEnd};
 ghost use Rattle.plai_base.specs.Causes.{Rose};
 ghost use Rattle.plai_words.specs.Command.{settings_of, texts};
-ghost use Rattle.plai_top.specs.Ending.{IsFaultOrComes, EndsByEach, EndsByWords, EndsEarly, IsSilent, IsBeforeScript, IsBeforeWork, IsStatus};
-ghost use Rattle.plai_top.specs.Loadings.{IsPrepared, HasLine};
-ghost use Rattle.plai_top.specs.Outcome.{Outcome, IsByWords, IsEarly, IsOutcome, OutcomeIsOne, silent};
-ghost use Rattle.plai_top.specs.Outputs.{outcome_of, KeepsWords, KeepsEarly, IsUnread};
-ghost use Rattle.plai_top.specs.Stops.{status_of, IsReadEnd};
+ghost use Rattle.plai_top.specs.Ending.{IsFaultOrComes, EndsByEach, EndsByWords, EndsEarly, IsSilent, IsBeforeWork, IsStatus};
+ghost use Rattle.plai_top.specs.Outcome.{Outcome, IsByWords, IsEarly, OutcomeIsOne};
+ghost use Rattle.plai_top.specs.Plans.{IsFitPlan, HasAnalysis, CarriesOut, IsPlanStatus, IsPlanStop};
 ghost use Rattle.plai_top.specs.Told.{IfBothTold};
 
-use crate::analysis::analysed;
-use crate::command::command_of;
-use crate::input::{read_files, read_script};
-use crate::loading::{Loading, load_files};
-use crate::output::Output;
+use crate::analysis::analyse_all;
+use crate::plan::{Plan, planned};
 use crate::stop::Stop;
-use crate::task::{Task, task_of};
+use crate::task::Task;
 use plai_base::{Library, Sink, Source, Steps, write_whole};
 use plai_domain::Work;
 use plai_eval::least_table_is_one;
 use std::alloc::Global;
 use std::sync::ledger::Ledger;
 
-/// A law: words, files and a script have one outcome at most, but that a stop may come beside a table or the other stop.
+/// A law: words, files and a script have one outcome at most, but that a stop may come in the place of a block.
 pub fn outcome_is_one()
     ensures { OutcomeIsOne }
 {
     least_table_is_one::<Task>();
 }
 
-/// What the files of a command are loaded to, and what analysis it asks for.
-#[derive(Debug, Drop)]
-struct Prepared {
-    task: Task,
-    loading: Loading,
-}
-
-/// Reads the words and the files, and loads them.
-fn prepare<B: Library>(alloc: Global, words: &[&str], library: &mut B) -> Result<Prepared, Stop>
-    ensures outcome { IfSome (B.files library.old) (λ files. MatchResult result
-        (λ prepared. IsPrepared (texts words.now) files prepared.task prepared.loading)
-        (λ stop. IsReadEnd stop ⊎ IsEarly (texts words.now) files (silent (status_of stop)))) }
-    ensures line { IfOk result (λ prepared. HasLine prepared.loading) }
-    ensures depth { IfOk result (λ prepared. (1 ≤ prepared.task.depth) × (prepared.task.depth ≤ 8)) }
-    ensures words { KeepsWords (texts words.now) result }
-    ensures command { IsErrOf result Stop.NoCommand → settings_of (texts words.now) ≡ None }
-    ensures no_write { IsErrOf result Stop.WriteFault → ⊥ }
-    ensures unread { (outcome : Outcome) → IsByWords (texts words.now) outcome → B.faults library.new ≡ B.faults library.old }
-    ensures later { B.faults library.old ≤ B.faults library.new }
-    ensures failed { IsErrOf result Stop.ReadFault → Rose (B.faults library.old) (B.faults library.new) }
-{
-    match command_of(alloc, words) {
-        Ok(settings) => match read_files(alloc, settings.files.as_slice(), library) {
-            Ok(files) => match load_files(alloc, files.as_slice()) {
-                Ok(loading) => Ok(Prepared {
-                    task: task_of(&settings),
-                    loading,
-                }),
-                Err(stop) => Err(stop),
-            },
-            Err(stop) => Err(stop),
-        },
-        Err(stop) => Err(stop),
-    }
-}
-
-/// Reads all that is to be read, and makes the output.
-fn output<B: Library, S: Source, W: Work, L: Ledger>(
+/// Writes what the plan asks for, and gives the status.
+fn carry_out<K: Sink, W: Work, L: Ledger>(
     alloc: Global,
-    words: &[&str],
-    library: &mut B,
-    script: &mut S,
+    plan: Plan,
+    sink: &mut K,
     work: &mut W,
     steps: &mut Steps<L>,
-) -> Result<Output, Stop>
-    // Where both tell, the output or the stop is that of an outcome, if no read failed and there was memory.
-    ensures outcome { IfBothTold (B.files library.old) (S.left script.old) (λ files text. MatchResult result
-        (λ output. IsOutcome (texts words.now) files text (outcome_of output))
-        (λ stop. IsReadEnd stop ⊎ IsOutcome (texts words.now) files text (silent (status_of stop)))) }
-    ensures some { IfOk result (λ output. output.bytes.items ≢ []) }
-    ensures status { IfOk result (λ output. (output.status ≡ 0) ⊎ (output.status ≡ 1) ⊎ (output.status ≡ 3)) }
-
-    // What the words and the files decide doesn't depend on the script, nor what the words decide on the files.
-    ensures early { IfSome (B.files library.old) (λ files.
-        KeepsEarly (texts words.now) files result (Rose (B.faults library.old) (B.faults library.new))) }
-    ensures words { KeepsWords (texts words.now) result }
-    ensures command { IsErrOf result Stop.NoCommand → settings_of (texts words.now) ≡ None }
-    ensures no_write { IsErrOf result Stop.WriteFault → ⊥ }
-    ensures end { IfOk result (λ output. (output.status ≡ 3 → ⊥) → IsAtEnd (S.left script.new)) }
-    ensures library_later { B.faults library.old ≤ B.faults library.new }
-    ensures script_later { S.faults script.old ≤ S.faults script.new }
-    ensures failed { IsErrOf result Stop.ReadFault → Rose (B.faults library.old) (B.faults library.new) ⊎ Rose (S.faults script.old) (S.faults script.new) }
-
-    // What isn't reached isn't read.
-    ensures unread_files { (outcome : Outcome) → IsByWords (texts words.now) outcome → (B.faults library.new ≡ B.faults library.old)
-        × (S.left script.new ≡ S.left script.old) × (S.faults script.new ≡ S.faults script.old) }
-    ensures unread_script { MatchResult result
-        (λ output. output.status ≡ 3 → (S.left script.new ≡ S.left script.old) × (S.faults script.new ≡ S.faults script.old))
-        (λ stop. IsUnread stop → (S.left script.new ≡ S.left script.old) × (S.faults script.new ≡ S.faults script.old)) }
-
-    // Work and steps are those of the analysis.
-    ensures noted { MatchResult result (λ output. output.status ≡ 3 → W.entries work.new ≡ W.entries work.old)
-        (λ stop. (stop ≡ Stop.Memory → ⊥) → W.entries work.new ≡ W.entries work.old) }
-    ensures steps { MatchResult result (λ output. output.status ≡ 3 → steps.new ≡ steps.old)
-        (λ stop. (stop ≡ Stop.Memory → ⊥) → steps.new ≡ steps.old) }
+) -> Result<u8, Stop>
+    requires { IsFitPlan plan }
+    ensures written { CarriesOut (K.taken sink.old) (K.taken sink.new) plan result }
+    ensures status { IfOk result (IsPlanStatus plan) }
+    ensures stop { IfErr result IsPlanStop }
+    ensures later { K.faults sink.old ≤ K.faults sink.new }
+    ensures failed { IsErrOf result Stop.WriteFault → Rose (K.faults sink.old) (K.faults sink.new) }
+    ensures noted { (HasAnalysis plan → ⊥) → W.entries work.new ≡ W.entries work.old }
+    ensures steps { (HasAnalysis plan → ⊥) → steps.new ≡ steps.old }
 {
-    match prepare(alloc, words, library) {
-        Ok(Prepared { task, loading }) => match loading {
-            Loading::Program(program) => match read_script(alloc, script) {
-                Ok(()) => analysed(alloc, &program, task, work, steps),
-                Err(stop) => Err(stop),
-            },
-            Loading::Refused(bytes) => Ok(Output { status: 3, bytes }),
+    match plan {
+        Plan::Line(bytes) => match write_whole(sink, bytes.as_slice()) {
+            Ok(()) => Ok(3),
+            Err(_) => Err(Stop::WriteFault),
         },
-        Err(stop) => Err(stop),
+        Plan::Blocks {
+            task,
+            program,
+            items,
+        } => analyse_all(alloc, program, items.as_slice(), task, sink, work, steps),
     }
 }
 
-/// Analyses the files that the words name under the domain that they name, and writes the table. The answer is the program's status,
-/// from 0 to 8.
+/// Analyses the files that the words name, and what the edits of the script make of them, under the domain that the words name,
+/// and writes a block for each: the least table, the limit that the analysis met, or why the edit is refused. A block is written
+/// before the next edit is begun. The answer is the program's status, from 0 to 8.
 ///
 /// | Status | Comes |
 /// |---|---|
-/// | 0 | all was done: the script was read to its end, and the sink took the whole table |
-/// | 1 | all was done, but the analysis met its limit of rows, or a set of more than 65,536 groups: the sink took the line that says so |
+/// | 0 | all was done, and each block is a table: the script was read to its end, and the sink took all blocks |
+/// | 1 | all was done, and some block says that an edit is refused, or that its analysis met the limit of rows or of groups |
 /// | 2 | the words form no command; nothing was written |
-/// | 3 | loading refused a term; the sink took the line that names it |
-/// | 4 | there are more than 64 files, or a file has more than 4,194,304 bytes; nothing was written |
+/// | 3 | loading refused a term, or a place of the script has no token; the sink took the line that names it |
+/// | 4 | there are more than 64 files, a file has more than 4,194,304 bytes, or the script more than 16,777,216; nothing was written |
 /// | 5 | the library or the script failed; nothing was written |
 /// | 6 | the sink failed; a part of the output was written |
 /// | 7 | memory is wanting; a part of the output was written |
-/// | 8 | the words have `--make`, the loaded program has a check, or the script has a byte: forms that aren't taken yet; nothing was written |
+/// | 8 | the words have `--make`, the loaded program has a check, or the script has an edit of a check: forms that aren't taken yet; nothing was written |
 pub fn run<B: Library, S: Source, K: Sink, W: Work, L: Ledger>(
     alloc: Global,
     words: &[&str],
@@ -146,8 +84,8 @@ pub fn run<B: Library, S: Source, K: Sink, W: Work, L: Ledger>(
     ensures whole { IfBothTold (B.files library.old) (S.left script.old) (λ files text.
         IsFaultOrComes (texts words.now) files text result (K.taken sink.old) (K.taken sink.new)) }
 
-    // Whatever the outcome is, the call ended by it, or, where it is a block, by the other one that may come: at a
-    // fault too no other byte was written.
+    // Whatever the outcome is, the call ended by it, or by one with stops in the place of some of its blocks: at a fault too no
+    // other byte was written.
     ensures every { IfBothTold (B.files library.old) (S.left script.old) (λ files text.
         EndsByEach (texts words.now) files text result (K.taken sink.old) (K.taken sink.new)) }
 
@@ -165,10 +103,11 @@ pub fn run<B: Library, S: Source, K: Sink, W: Work, L: Ledger>(
     ensures script_later { S.faults script.old ≤ S.faults script.new }
     ensures sink_later { K.faults sink.old ≤ K.faults sink.new }
 
-    // What isn't reached isn't read: the files where the words decide, the script at 2, 3 and 4.
+    // What isn't reached isn't read: the files where the words decide, the script where words and files do.
     ensures unread_files { (outcome : Outcome) → IsByWords (texts words.now) outcome → (B.faults library.new ≡ B.faults library.old)
         × (S.left script.new ≡ S.left script.old) × (S.faults script.new ≡ S.faults script.old) }
-    ensures unread_script { IsBeforeScript result → (S.left script.new ≡ S.left script.old) × (S.faults script.new ≡ S.faults script.old) }
+    ensures unread_script { IfSome (B.files library.old) (λ files. (outcome : Outcome) → IsEarly (texts words.now) files outcome
+        → (S.left script.new ≡ S.left script.old) × (S.faults script.new ≡ S.faults script.old)) }
 
     // At 0 and 1 the script was read to its end, and at a status without output nothing was written.
     ensures end { (result ≡ 0) ⊎ (result ≡ 1) → IsAtEnd (S.left script.new) }
@@ -179,10 +118,10 @@ pub fn run<B: Library, S: Source, K: Sink, W: Work, L: Ledger>(
     ensures steps { IsBeforeWork result → steps.new ≡ steps.old }
 {
     outcome_is_one();
-    match output(alloc, words, library, script, work, steps) {
-        Ok(output) => match write_whole(sink, output.bytes.as_slice()) {
-            Ok(()) => output.status,
-            Err(_) => Stop::WriteFault.status(),
+    match planned(alloc, words, library, script) {
+        Ok(plan) => match carry_out(alloc, plan, sink, work, steps) {
+            Ok(status) => status,
+            Err(stop) => stop.status(),
         },
         Err(stop) => stop.status(),
     }

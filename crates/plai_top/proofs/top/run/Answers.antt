@@ -1,14 +1,20 @@
 use Rattle.plai_base.specs.Causes.{Rose}
 use Rattle.plai_words.specs.Command.{texts}
-use Rattle.plai_top.proofs.Endings.{write_every, stopped_early}
+use Rattle.plai_top.proofs.Endings.{plan_whole, plan_every, plan_early, cut_whole, cut_every, cut_early, stopped_whole, stopped_every, stopped_early}
 use Rattle.plai_top.proofs.top.run.Goals as goal
 
-pub returns-in-Ok-clause-every : goal.returns-in-Ok-clause-every
-returns-in-Ok-clause-every g c =
-    rw c.status.ensures (write_every c.outcome_is_one.ensures _ _ _ _ _ c.in-Ok.output _ c.in-Ok.ensures.outcome c.in-Ok.ensures.some c.as_slice.ensures.value (c.in-Err-write_whole.ensures.prefix))
+pub returns-in-Ok-carry_out-clause-whole : goal.returns-in-Ok-carry_out-clause-whole
+returns-in-Ok-carry_out-clause-whole g c =
+    plan_whole (texts c.args.words.now) (g.K.Sink.taken c.args.sink.now) (g.K.Sink.taken c.carry_out.new.sink) c.in-Ok.plan
+    (g.B.Library.files c.args.library.now) (g.S.Source.left c.args.script.now) c.in-Ok-carry_out.status c.in-Ok.ensures.outcome c.in-Ok-carry_out.ensures.written
 
-pub returns-clause-early : goal.returns-clause-early
-returns-clause-early g c =
-    rw c.status-in-Err.ensures
-    (stopped_early (texts c.args.words.now) (Rose (g.B.Library.faults c.args.library.now) (g.B.Library.faults c.output.new.library))
-    (g.B.Library.files c.args.library.now) c.in-Err.stop (g.K.Sink.taken c.args.sink.now) c.in-Err.ensures.early)
+pub returns-in-Ok-carry_out-clause-every : goal.returns-in-Ok-carry_out-clause-every
+returns-in-Ok-carry_out-clause-every g c =
+    plan_every (texts c.args.words.now) (g.K.Sink.taken c.args.sink.now) (g.K.Sink.taken c.carry_out.new.sink) c.in-Ok.plan c.outcome_is_one.ensures
+    (g.B.Library.files c.args.library.now) (g.S.Source.left c.args.script.now) c.in-Ok-carry_out.status c.in-Ok.ensures.outcome c.in-Ok-carry_out.ensures.written
+
+pub returns-in-Err-carry_out-clause-every : goal.returns-in-Err-carry_out-clause-every
+returns-in-Err-carry_out-clause-every g c =
+    rw c.status.ensures
+    (cut_every (texts c.args.words.now) (g.K.Sink.taken c.args.sink.now) (g.K.Sink.taken c.carry_out.new.sink) c.in-Ok.plan c.outcome_is_one.ensures
+    (g.B.Library.files c.args.library.now) (g.S.Source.left c.args.script.now) c.in-Err-carry_out.stop c.in-Ok.ensures.outcome c.in-Ok.ensures.fit c.in-Err-carry_out.ensures.written)

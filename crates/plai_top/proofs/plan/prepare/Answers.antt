@@ -1,5 +1,5 @@
 use Rattle.plai_top.proofs.Deciding.{words_decide, files_decide, loading_decides, loading_prepares}
-use Rattle.plai_top.proofs.top.prepare.Goals as goal
+use Rattle.plai_top.proofs.plan.prepare.Goals as goal
 
 pub returns-in-Ok-load_files-clause-outcome : goal.returns-in-Ok-load_files-clause-outcome
 returns-in-Ok-load_files-clause-outcome g c =

@@ -1,0 +1,62 @@
+//! The analysis of the program behind an edit.
+ghost use Rattle.std.specs.Prelude.{IfOk};
+ghost use Rattle.plai_session.specs.Sessions.{IsAnalysed};
+
+use crate::answer::EditAnswer;
+use plai_base::Steps;
+use plai_clauses::Program;
+use plai_domain::{Domain, Work, WorkEntry};
+use plai_render::TextRow;
+use plai_rounds::{AnalyseFail, analyse};
+use plai_terms::Listed;
+use std::alloc::{AllocError, Global};
+use std::sync::ledger::Ledger;
+
+/// What an analysis gave: the rows of the table as text, if there is one, and the answer.
+#[derive(Debug, Drop)]
+pub struct Analysed {
+    pub table: Option<Listed<TextRow>>,
+    pub answer: EditAnswer,
+}
+
+/// Analyses the program from no row at all, as the work of the edit of this number.
+pub fn analyse_anew<D: Domain, W: Work, L: Ledger>(
+    alloc: Global,
+    domain: &D,
+    program: &Program,
+    limit: u64,
+    number: u64,
+    work: &mut W,
+    steps: &mut Steps<L>,
+) -> Result<Analysed, AllocError>
+    ensures { IfOk result (λ analysed. IsAnalysed (D.plain domain.now) limit program.now analysed.table analysed.answer) }
+{
+    work.note(alloc, &WorkEntry::Mark(number))?;
+    match analyse(alloc, domain, program, limit, work, steps) {
+        Ok(rows) => Ok(Analysed {
+            table: Some(Listed::new(rows)),
+            answer: EditAnswer::Table,
+        }),
+        Err(AnalyseFail::Rows(most)) => Ok(Analysed {
+            table: None,
+            answer: EditAnswer::StoppedRows(most),
+        }),
+        Err(
+            AnalyseFail::Groups {
+                row,
+                clause,
+                literal,
+                place,
+            },
+        ) => Ok(Analysed {
+            table: None,
+            answer: EditAnswer::StoppedGroups {
+                row,
+                clause,
+                literal,
+                place,
+            },
+        }),
+        Err(AnalyseFail::Memory) => Err(AllocError),
+    }
+}

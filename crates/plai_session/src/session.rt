@@ -1,0 +1,165 @@
+//! Sessions.
+ghost use Rattle.std.specs.Prelude.{◌≡◌, true, false, IfOk, IfSome, OnOk, OnErr, option_map};
+ghost use Rattle.plai_script.specs.Edits.{edited};
+ghost use Rattle.plai_script.specs.Readable.{IsReadableEdit};
+ghost use Rattle.plai_session.specs.Sessions.{IsTableOf, IsAnalysed, IsEdited, IsLost, IsRefusal};
+
+use crate::analysis::{Analysed, analyse_anew};
+use crate::answer::EditAnswer;
+use plai_base::Steps;
+use plai_clauses::Program;
+use plai_domain::{Domain, Work};
+use plai_render::TextRow;
+use plai_script::{Edit, EditFail, apply};
+use plai_terms::Listed;
+use std::alloc::{AllocError, Global};
+use std::marker::Model;
+use std::sync::ledger::Ledger;
+
+/// A program under edits, with its table where there is one. Contracts see the domain, the limit of rows, the program, the
+/// rows of the table as text, which is the least table of the program, and whether an edit met want of memory.
+#[derive(Drop)]
+pub struct Session<D: Domain> {
+    domain: D,
+    limit: u64,
+    program: Program,
+    table: Option<Listed<TextRow>>,
+    lost: bool,
+}
+
+impl<D: Domain> Model for Session<D> {
+    ghost use Rattle.plai_session.specs.Codes.{session_code};
+    ghost use Rattle.plai_session.specs.Sessions.{SessionView, IsKept};
+
+    ghost Value = { SessionView D };
+
+    ghost coded = { session_code D.code };
+
+    ghost view = { λ s. record { domain = s.domain; limit = s.limit; program = s.program; table = s.table; lost = s.lost } };
+
+    ghost invariant = { λ s. IsKept (D.plain s.domain) s.limit s.program s.table s.lost };
+}
+
+impl<D: Domain> Session<D> {
+    /// Begins with a program and analyses it, as edit 0: the work begins with `Mark(0)`. It never answers `Refused`. There is
+    /// no session after want of memory.
+    pub fn open<W: Work, L: Ledger>(
+        alloc: Global,
+        domain: D,
+        program: Program,
+        limit: u64,
+        work: &mut W,
+        steps: &mut Steps<L>,
+    ) -> Result<(Session<D>, EditAnswer), AllocError>
+        ensures begun { IfOk result (λ opened. (opened.0.domain ≡ domain) × (opened.0.limit ≡ limit) × (opened.0.program ≡ program) × (opened.0.lost ≡ false)) }
+        ensures answer { IfOk result (λ opened. IsAnalysed (D.plain domain) limit program opened.0.table opened.1) }
+    {
+        let Analysed { table, answer } = analyse_anew(
+            alloc, &domain, &program, limit, 0, work, steps,
+        )?;
+        let session = Session {
+            domain,
+            limit,
+            program,
+            table,
+            lost: false,
+        };
+        Ok((session, answer))
+    }
+
+    /// Carries out the edit of this number. Refused exactly where the edit is, by its first cause: the session, the work and
+    /// the steps are as before. Else the program is the edited one, the work of its analysis begins with `Mark(number)`, and the
+    /// session has its table, or none after a stop.
+    ///
+    /// After want of memory the program is that from before the edit, there is no table, and every later edit answers want of
+    /// memory.
+    pub fn edit<W: Work, L: Ledger>(
+        &mut self,
+        alloc: Global,
+        number: u64,
+        edit: &Edit,
+        work: &mut W,
+        steps: &mut Steps<L>,
+    ) -> Result<EditAnswer, AllocError>
+        requires { IsReadableEdit edit.now }
+        ensures answer { IfOk result (λ answer. IsEdited (D.plain self.old.domain) self.old self.new answer (edited self.old.program edit.now)) }
+        ensures memory { OnErr result (IsLost self.old self.new) }
+        ensures lost { self.old.lost ≡ true → OnOk result ⊥ }
+        ensures noted { IfOk result (λ answer. IsRefusal answer → W.entries work.new ≡ W.entries work.old) }
+        ensures steps { IfOk result (λ answer. IsRefusal answer → steps.new ≡ steps.old) }
+    {
+        if self.lost {
+            return Err(AllocError);
+        }
+        match apply(alloc, &self.program, edit) {
+            Ok(program) => self.take_over(alloc, number, program, work, steps),
+            Err(EditFail::Refused(cause)) => Ok(EditAnswer::Refused(cause)),
+            Err(EditFail::Memory) => {
+                self.lose();
+                Err(AllocError)
+            }
+        }
+    }
+
+    /// Puts the program in the place of the present one, with what its analysis gives.
+    fn take_over<W: Work, L: Ledger>(
+        &mut self,
+        alloc: Global,
+        number: u64,
+        program: Program,
+        work: &mut W,
+        steps: &mut Steps<L>,
+    ) -> Result<EditAnswer, AllocError>
+        requires { self.old.lost ≡ false }
+        ensures answer { IfOk result (λ answer. (self.new.program ≡ program) × (self.new.domain ≡ self.old.domain) × (self.new.limit ≡ self.old.limit) × (self.new.lost ≡ false)
+            × IsAnalysed (D.plain self.old.domain) self.old.limit program self.new.table answer) }
+        ensures memory { OnErr result (IsLost self.old self.new) }
+    {
+        match analyse_anew(
+            alloc,
+            &self.domain,
+            &program,
+            self.limit,
+            number,
+            work,
+            steps,
+        ) {
+            Ok(Analysed { table, answer }) => {
+                self.program = program;
+                self.table = table;
+                Ok(answer)
+            }
+            Err(_) => {
+                self.lose();
+                Err(AllocError)
+            }
+        }
+    }
+
+    /// Memory was wanting.
+    fn lose(&mut self)
+        ensures { IsLost self.old self.new }
+    {
+        self.table = None;
+        self.lost = true;
+    }
+
+    /// The program. It takes no memory.
+    pub fn program(&self) -> &Program
+        ensures { result.now ≡ self.now.program }
+    {
+        &self.program
+    }
+
+    /// The rows of the program's table as text, in the order of a table. None exactly where the last accepted edit stopped, or
+    /// an edit met want of memory. It takes no memory.
+    pub fn table(&self) -> Option<&[TextRow]>
+        ensures rows { option_map (λ rows. rows.now) result ≡ self.now.table }
+        ensures least { IfSome result (λ rows. IsTableOf (D.plain self.now.domain) self.now.limit self.now.program rows.now) }
+    {
+        match &self.table {
+            Some(rows) => Some(rows.as_slice()),
+            None => None,
+        }
+    }
+}

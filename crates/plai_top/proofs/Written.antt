@@ -1,0 +1,184 @@
+-- Blocks that are written one by one are the blocks of a call.
+use Rattle.std.proofs.Common.{◌≡◌, ◌⊎◌, ℕ, zero, suc, ◌+◌, Bool, true, false, ◌&&◌, cond, ◌<◌, ◌≤◌, List, [], ◌∷◌, ◌++◌, None, Some, Result, Ok, Err, length, take, drop, get_or, refl, sym, ◌∙◌, ap, subst, inl, inr, arith}
+use Rattle.std.proofs.Math.Seq.{take-append_seam, take-append-add}
+use Rattle.std.proofs.lemmas.List.{append-nil, append_assoc, length-append, drop_more, drop_all}
+use Rattle.std.proofs.lemmas.List.Folds.{list_all-append}
+use Rattle.std.specs.List.{list_all}
+use Rattle.std.specs.Io.KnownBytes.{Appends, Keeps}
+use Rattle.std.specs.declared.option.Option.{Option}
+use Rattle.plai_domain.specs.Plain.{PlainDomain}
+use Rattle.plai_clauses.specs.Program.{ProgramView}
+use Rattle.plai_clauses.specs.declared.edit_cause.EditCause.{EditCause}
+use Rattle.plai_script.specs.declared.edit.Edit.{Edit}
+use Rattle.plai_session.specs.Programs.{judged, kept, behind}
+use Rattle.plai_top.specs.Blocks.{Block, text_of, texts_from, is_table, status_of_blocks, IsBlockOf, AreBlocksOf, no_more, one_more}
+use Rattle.plai_top.specs.Writing.{IsBlockText, WritesBlock, Wrote, WritesBlocks}
+use Rattle.plai_top.specs.declared.stop.Stop.{Stop}
+use Rattle.plai_top.specs.declared.stop.Stop.TheVariants.{WriteFault, Memory}
+
+-- ---- bytes
+
+pub appends_then : (before between behind_it : Option (List ℕ)) (xs ys : List ℕ) → Appends before between xs → Appends between behind_it ys → Appends before behind_it (xs ++ ys)
+appends_then None between behind_it xs ys one two = tt
+appends_then (Some a) None behind_it xs ys one two = absurd one
+appends_then (Some a) (Some b) None xs ys one two = absurd two
+appends_then (Some a) (Some b) (Some c) xs ys one two = two ∙ ap (λ l. l ++ ys) one ∙ append_assoc a xs ys
+
+kept_appends : (before after : Option (List ℕ)) → Keeps before after → Appends before after []
+kept_appends None after same = tt
+kept_appends (Some a) None same = absurd same
+kept_appends (Some a) (Some b) same = same ∙ sym (append-nil a)
+
+nothing_more : (taken : Option (List ℕ)) → Appends taken taken []
+nothing_more None = tt
+nothing_more (Some bytes) = sym (append-nil bytes)
+
+-- the first bytes of a text are the first bytes of it with more behind
+pub prefix_of : (n : ℕ) (xs ys : List ℕ) → (m : ℕ) × (take m (xs ++ ys) ≡ take n xs)
+prefix_of zero xs ys = (0, refl)
+prefix_of (suc n) [] ys = (0, refl)
+prefix_of (suc n) (x ∷ xs) ys = let (m, is) = prefix_of n xs ys in (suc m, ap (λ l. x ∷ l) is)
+
+-- ---- texts of blocks
+
+pub texts_join : (number : ℕ) (blocks others : List Block) → texts_from number (blocks ++ others) ≡ texts_from number blocks ++ texts_from (number + length blocks) others
+texts_join number [] others = ap (λ n. texts_from n others) (omega arith)
+texts_join number (block ∷ blocks) others =
+    ap (λ l. text_of number block ++ l) (texts_join (number + 1) blocks others ∙ ap (λ n. texts_from (number + 1) blocks ++ texts_from n others) (omega arith))
+    ∙ sym (append_assoc (text_of number block) (texts_from (number + 1) blocks) (texts_from (number + length (block ∷ blocks)) others))
+
+pub texts_behind : (blocks others : List Block) → texts_from 0 (blocks ++ others) ≡ texts_from 0 blocks ++ texts_from (length blocks) others
+texts_behind blocks others = texts_join 0 blocks others ∙ ap (λ n. texts_from 0 blocks ++ texts_from n others) (omega arith)
+
+module _ (p : PlainDomain) (limit : ℕ) where
+  blocks_join : (gs hs : List (Result ProgramView EditCause)) (bs cs : List Block) → AreBlocksOf p limit gs bs → AreBlocksOf p limit hs cs → AreBlocksOf p limit (gs ++ hs) (bs ++ cs)
+  blocks_join gs hs bs cs no_more two = two
+  blocks_join gs hs bs cs (one_more g b fs ds is are) two = one_more g b (fs ++ hs) (ds ++ cs) is (blocks_join fs hs ds cs are two)
+
+  later_blocks : (gs hs : List (Result ProgramView EditCause)) (bs : List Block) → AreBlocksOf p limit (gs ++ hs) bs → (cs : List Block) × AreBlocksOf p limit hs cs
+  later_blocks [] hs bs are = (bs, are)
+  later_blocks (g ∷ gs) hs bs (one_more _ b _ ds is are) = later_blocks gs hs ds are
+
+  last_blocks : (g : Result ProgramView EditCause) (hs : List (Result ProgramView EditCause)) (bs : List Block) → AreBlocksOf p limit (g ∷ hs) bs
+      → (cs : List Block) × AreBlocksOf p limit hs cs
+  last_blocks g hs bs (one_more _ b _ ds is are) = (ds, are)
+
+  one_alone : (g : Result ProgramView EditCause) (b : Block) → IsBlockOf p limit g b → AreBlocksOf p limit (g ∷ []) (b ∷ [])
+  one_alone g b is = one_more g b [] [] is no_more
+
+  module _ (givens : List (Result ProgramView EditCause)) (before : Option (List ℕ)) where
+    pub nothing_written : Appends before before [] → Wrote p limit givens before before givens 0 true
+    nothing_written none = record { earlier = []; written = []; parts = refl; are = no_more; bytes = none; count = refl; tables = refl }
+
+    module _ (now : Option (List ℕ)) (given : Result ProgramView EditCause) (left : List (Result ProgramView EditCause)) (number : ℕ) (are_tables : Bool)
+        (wrote : Wrote p limit givens before now (given ∷ left) number are_tables) where
+      -- one block more
+      pub wrote_more : (next : Option (List ℕ)) (shows : Bool) → WritesBlock p limit number given now next (Ok shows) → Wrote p limit givens before next left (number + 1) (are_tables && shows)
+      wrote_more next shows (text, is, took) = record {
+        earlier = wrote.earlier ++ given ∷ [];
+        written = wrote.written ++ is.block ∷ [];
+        parts = wrote.parts ∙ sym (append_assoc wrote.earlier (given ∷ []) left);
+        are = blocks_join wrote.earlier (given ∷ []) wrote.written (is.block ∷ []) wrote.are (one_alone given is.block is.is_block);
+        bytes =
+            let own : text ≡ text_of number is.block ++ [] = is.is_text ∙ sym (append-nil (text_of number is.block)) in
+            let last : text ≡ texts_from (length wrote.written) (is.block ∷ []) = own ∙ ap (λ n. texts_from n (is.block ∷ [])) (sym wrote.count) in
+            subst (Appends before next) (ap (λ l. texts_from 0 wrote.written ++ l) last ∙ sym (texts_behind wrote.written (is.block ∷ [])))
+            (appends_then before now next (texts_from 0 wrote.written) text wrote.bytes took);
+        count = length-append wrote.written (is.block ∷ []) ∙ ap (λ n. n + 1) wrote.count;
+        tables = ap (λ b. b && shows) wrote.tables ∙ ap (λ b. list_all is_table wrote.written && b) (sym (alone is.block shows is.shows))
+            ∙ sym (list_all-append is_table wrote.written (is.block ∷ []));
+      }
+        where
+          alone : (b : Block) (s : Bool) → is_table b ≡ s → list_all is_table (b ∷ []) ≡ s
+          alone b true e = ap (λ x. x && true) e
+          alone b false e = ap (λ x. x && true) e
+
+      -- a prefix of the block's text was written, or nothing of it
+      stopped_within : (next : Option (List ℕ)) (block : Block) → IsBlockOf p limit given block → (n : ℕ) → Appends now next (take n (text_of number block))
+          → (others : List Block) → AreBlocksOf p limit givens others
+          → (blocks : List Block) × AreBlocksOf p limit givens blocks × ((m : ℕ) × Appends before next (take m (texts_from 0 blocks)))
+      stopped_within next block is n took others are =
+          let (tail, tails) = later_blocks wrote.earlier (given ∷ left) others (subst (λ gs. AreBlocksOf p limit gs others) wrote.parts are) in
+          let (rest, rests) = last_blocks given left tail tails in
+          let blocks : List Block = wrote.written ++ block ∷ rest in
+          let are_blocks : AreBlocksOf p limit (wrote.earlier ++ given ∷ left) blocks = blocks_join wrote.earlier (given ∷ left) wrote.written (block ∷ rest) wrote.are (one_more given block left rest is rests) in
+          let behind_text : List ℕ = texts_from (number + 1) rest in
+          let (m, first) = prefix_of n (text_of number block) behind_text in
+          let whole : texts_from 0 blocks ≡ texts_from 0 wrote.written ++ (text_of number block ++ behind_text) =
+              texts_behind wrote.written (block ∷ rest) ∙ ap (λ k. texts_from 0 wrote.written ++ texts_from k (block ∷ rest)) wrote.count in
+          let cut : take (length (texts_from 0 wrote.written) + m) (texts_from 0 blocks) ≡ texts_from 0 wrote.written ++ take n (text_of number block) =
+              ap (take (length (texts_from 0 wrote.written) + m)) whole ∙ take-append-add (texts_from 0 wrote.written) (text_of number block ++ behind_text) m
+              ∙ ap (λ l. texts_from 0 wrote.written ++ l) first in
+          (blocks, subst (λ gs. AreBlocksOf p limit gs blocks) (sym wrote.parts) are_blocks,
+           (length (texts_from 0 wrote.written) + m, subst (Appends before next) (sym cut)
+            (appends_then before now next (texts_from 0 wrote.written) (take n (text_of number block)) wrote.bytes took)))
+
+      first_block : (others : List Block) → AreBlocksOf p limit givens others → (block : Block) × IsBlockOf p limit given block
+      first_block others are =
+          let (tail, tails) = later_blocks wrote.earlier (given ∷ left) others (subst (λ gs. AreBlocksOf p limit gs others) wrote.parts are) in
+          head_of tail tails
+        where
+          head_of : (bs : List Block) → AreBlocksOf p limit (given ∷ left) bs → (block : Block) × IsBlockOf p limit given block
+          head_of bs (one_more _ b _ ds is also) = (b, is)
+
+      pub wrote_stops : (next : Option (List ℕ)) (stop : Stop) → WritesBlock p limit number given now next (Err stop) → WritesBlocks p limit givens before next (Err stop)
+      wrote_stops next stop (inl (memory, same)) = (inl memory, λ others are.
+          let (block, is) = first_block others are in
+          stopped_within next block is 0 (kept_appends now next same) others are)
+      wrote_stops next stop (inr (fault, (text, shows, is, (n, took)))) = (inr fault, λ others are.
+          stopped_within next is.block is.is_block n (subst (λ l. Appends now next (take n l)) is.is_text took) others are)
+
+    pub wrote_all : (now : Option (List ℕ)) (number : ℕ) (are_tables : Bool) → Wrote p limit givens before now [] number are_tables
+        → WritesBlocks p limit givens before now (Ok (cond are_tables 0 1))
+    wrote_all now number are_tables wrote =
+        let parts : givens ≡ wrote.earlier = wrote.parts ∙ append-nil wrote.earlier in
+        (wrote.written, subst (λ gs. AreBlocksOf p limit gs wrote.written) (sym parts) wrote.are, ap (λ b. cond b 0 1) wrote.tables, wrote.bytes)
+
+-- ---- an item of the script
+
+module _ (p : PlainDomain) (limit : ℕ) (givens : List (Result ProgramView EditCause)) (before now : Option (List ℕ)) (program : ProgramView)
+    (items : List (Result Edit EditCause)) (i : ℕ) (item : Result Edit EditCause) (number : ℕ) (are_tables : Bool) (within : i < length items) (is : item ≡ get_or items i item) where
+  -- the next item is the first that is left
+  next_left : behind program (drop i items) ≡ judged program item ∷ behind (kept program (judged program item)) (drop (i + 1) items)
+  next_left = ap (behind program) (drop_more items i item within ∙ ap (λ x. x ∷ drop (i + 1) items) (sym is))
+
+  at_next : Wrote p limit givens before now (behind program (drop i items)) number are_tables
+      → Wrote p limit givens before now (judged program item ∷ behind (kept program (judged program item)) (drop (i + 1) items)) number are_tables
+  at_next wrote = subst (λ l. Wrote p limit givens before now l number are_tables) next_left wrote
+
+  pub item_more : (next : Option (List ℕ)) (shows : Bool) (changed : ProgramView) → Wrote p limit givens before now (behind program (drop i items)) number are_tables
+      → WritesBlock p limit number (judged program item) now next (Ok shows) → changed ≡ kept program (judged program item)
+      → Wrote p limit givens before next (behind changed (drop (i + 1) items)) (number + 1) (are_tables && shows)
+  item_more next shows changed wrote writes same =
+      subst (λ g. Wrote p limit givens before next (behind g (drop (i + 1) items)) (number + 1) (are_tables && shows)) (sym same)
+      (wrote_more p limit givens before now (judged program item) (behind (kept program (judged program item)) (drop (i + 1) items)) number are_tables (at_next wrote) next shows writes)
+
+  pub item_stops : (next : Option (List ℕ)) (stop : Stop) → Wrote p limit givens before now (behind program (drop i items)) number are_tables
+      → WritesBlock p limit number (judged program item) now next (Err stop) → WritesBlocks p limit givens before next (Err stop)
+  item_stops next stop wrote writes =
+      wrote_stops p limit givens before now (judged program item) (behind (kept program (judged program item)) (drop (i + 1) items)) number are_tables (at_next wrote) next stop writes
+
+module _ (p : PlainDomain) (limit : ℕ) (givens : List (Result ProgramView EditCause)) (before now : Option (List ℕ)) (program : ProgramView)
+    (items : List (Result Edit EditCause)) where
+  pub items_end : (i number : ℕ) (are_tables : Bool) → Wrote p limit givens before now (behind program (drop i items)) number are_tables → length items ≤ i
+      → WritesBlocks p limit givens before now (Ok (cond are_tables 0 1))
+  items_end i number are_tables wrote past =
+      wrote_all p limit givens before now number are_tables (subst (λ l. Wrote p limit givens before now (behind program l) number are_tables) (drop_all i items past) wrote)
+
+-- the same domain and limit
+pub block_for : {D : Type 0} (plain : D → PlainDomain) (own domain : D) (most limit number : ℕ) (given : Result ProgramView EditCause) (now next : Option (List ℕ)) (result : Result Bool Stop)
+    → own ≡ domain → most ≡ limit → WritesBlock (plain own) most number given now next result → WritesBlock (plain domain) limit number given now next result
+block_for plain own domain most limit number given now next result same also writes =
+    subst (λ n. WritesBlock (plain domain) n number given now next result) also (subst (λ d. WritesBlock (plain d) most number given now next result) same writes)
+
+-- ---- the first block
+
+pub first_written : (p : PlainDomain) (limit : ℕ) (given : Result ProgramView EditCause) (left : List (Result ProgramView EditCause)) (before now : Option (List ℕ)) (shows : Bool)
+    → WritesBlock p limit 0 given before now (Ok shows) → Wrote p limit (given ∷ left) before now left 1 shows
+first_written p limit given left before now shows writes =
+    wrote_more p limit (given ∷ left) before before given left 0 true (nothing_written p limit (given ∷ left) before (nothing_more before)) now shows writes
+
+pub first_stops : (p : PlainDomain) (limit : ℕ) (given : Result ProgramView EditCause) (left : List (Result ProgramView EditCause)) (before now : Option (List ℕ)) (stop : Stop)
+    → WritesBlock p limit 0 given before now (Err stop) → WritesBlocks p limit (given ∷ left) before now (Err stop)
+first_stops p limit given left before now stop writes =
+    wrote_stops p limit (given ∷ left) before before given left 0 true (nothing_written p limit (given ∷ left) before (nothing_more before)) now stop writes

@@ -1,0 +1,18 @@
+use Rattle.std.proofs.Common.{◌≡◌, ◌≤◌, ℕ, ◌+◌, Bool, List, Option, Result, drop}
+use Rattle.plai_clauses.specs.Program.{ProgramView}
+use Rattle.plai_clauses.specs.declared.edit_cause.EditCause.{EditCause}
+use Rattle.plai_session.specs.Programs.{behind}
+use Rattle.plai_top.specs.Writing.{Wrote}
+use Rattle.plai_top.proofs.blocks.write_items.Given as goal
+
+-- the items so far have their blocks, and the session has the program behind them
+abbrev pub invariant-loop-item : goal.invariant-loop-item
+invariant-loop-item g l = record {
+  wrote : (givens : List (Result ProgramView EditCause)) (before : Option (List ℕ))
+      → Wrote (g.D.Domain.plain l.fn.session.domain) l.fn.session.limit givens before (g.K.Sink.taken l.fn.sink) (behind l.fn.session.program l.fn.items) 1 l.fn.is_table
+      → Wrote (g.D.Domain.plain l.fn.session.domain) l.fn.session.limit givens before (g.K.Sink.taken l.sink) (behind l.session.program (drop l.item-index l.items)) l.number l.are_tables;
+  domain : l.session.domain ≡ l.fn.session.domain;
+  limit : l.session.limit ≡ l.fn.session.limit;
+  count : l.number ≡ l.item-index + 1;
+  later : g.K.Sink.faults l.fn.sink ≤ g.K.Sink.faults l.sink;
+}

@@ -1,0 +1,70 @@
+-- What a call is to do once its input is read, and what it does.
+use Rattle.std.specs.Prelude.{◌≡◌, ◌≢◌, ◌⊎◌, ◌≤◌, ◌∷◌, ℕ, List, [], Result, Ok, Err, MatchResult, take}
+use Rattle.std.specs.Io.KnownBytes.{Appends}
+use Rattle.std.specs.declared.option.Option.{Option}
+use Rattle.plai_base.specs.Texts.{TextMap}
+use Rattle.plai_clauses.specs.Program.{ProgramView}
+use Rattle.plai_words.specs.declared.types.Settings.{Settings}
+use Rattle.plai_session.specs.Programs.{behind}
+use Rattle.plai_top.specs.Outcome.{Outcome, IsEarly, IsLoaded, IsByScript, HasEdits, IsOutcome, silent, line}
+use Rattle.plai_top.specs.Scripts.{AreReadable}
+use Rattle.plai_top.specs.Stops.{status_of}
+use Rattle.plai_top.specs.Tasks.{domain_of, task_of}
+use Rattle.plai_top.specs.Writing.{WritesBlocks}
+use Rattle.plai_top.specs.declared.plan.Plan.{Plan}
+use Rattle.plai_top.specs.declared.plan.Plan.TheVariants.{Line, Blocks}
+use Rattle.plai_top.specs.declared.task.Task.{Task}
+use Rattle.plai_top.specs.declared.stop.Stop.{Stop}
+use Rattle.plai_top.specs.declared.stop.Stop.TheVariants.{TooLarge, ReadFault, WriteFault, Memory, NotBuilt}
+
+-- the words, the files and the script ask for this: the line of a refusal, or the blocks of a program and of edits
+abbrev pub IsPlan : List (List ℕ) → TextMap → List ℕ → Plan → Type 0
+IsPlan words files script (Line bytes) = IsOutcome words files script (line bytes.items)
+IsPlan words files script (Blocks task program items) =
+    (settings : Settings) × (task_of settings ≡ task) × IsLoaded words files settings program × HasEdits script items.items
+
+-- the line has bytes; the depth is a depth, and the terms of the edits are as they were read
+abbrev pub IsFitPlan : Plan → Type 0
+IsFitPlan (Line bytes) = bytes.items ≢ []
+IsFitPlan (Blocks task program items) = (1 ≤ task.depth) × (task.depth ≤ 8) × AreReadable items.items
+
+-- the plan has an analysis
+abbrev pub HasAnalysis : Plan → Type 0
+HasAnalysis (Line bytes) = ⊥
+HasAnalysis (Blocks task program items) = Unit {0}
+
+-- the plan is the line of this outcome
+abbrev pub IsLineOf : Outcome → Plan → Type 0
+IsLineOf outcome (Line bytes) = line bytes.items ≡ outcome
+IsLineOf outcome (Blocks task program items) = ⊥
+
+-- what the words and the files decide comes, unless the library failed or memory runs out
+abbrev pub KeepsEarly : List (List ℕ) → TextMap → Result Plan Stop → Type 0 → Type 0
+KeepsEarly words files result LibraryFailed = (outcome : Outcome) → IsEarly words files outcome →
+    MatchResult result (IsLineOf outcome)
+    (λ stop. (silent (status_of stop) ≡ outcome) ⊎ ((stop ≡ ReadFault) × LibraryFailed) ⊎ (stop ≡ Memory))
+
+-- the plan is carried out, or a write failed, or memory ran out
+abbrev pub CarriesOut : Option (List ℕ) → Option (List ℕ) → Plan → Result ℕ Stop → Type 0
+CarriesOut before after (Line bytes) (Ok status) = (status ≡ 3) × Appends before after bytes.items
+CarriesOut before after (Line bytes) (Err stop) = (stop ≡ WriteFault) × ((n : ℕ) × Appends before after (take n bytes.items))
+CarriesOut before after (Blocks task program items) result =
+    WritesBlocks (domain_of task) task.rows (Ok program ∷ behind program items.items) before after result
+
+-- a plan behind a loaded program, by the script alone
+abbrev pub IsScripted : Task → ProgramView → List ℕ → Plan → Type 0
+IsScripted task program script (Line bytes) = IsByScript script (line bytes.items)
+IsScripted task program script (Blocks own loaded items) = (own ≡ task) × (loaded ≡ program) × HasEdits script items.items
+
+-- a stop that reading a script may come to
+abbrev pub IsScriptStop : Stop → Type 0
+IsScriptStop stop = (stop ≡ TooLarge) ⊎ (stop ≡ ReadFault) ⊎ (stop ≡ Memory) ⊎ (stop ≡ NotBuilt)
+
+-- the status of a plan that is carried out: 3 for a line, 0 or 1 for blocks
+abbrev pub IsPlanStatus : Plan → ℕ → Type 0
+IsPlanStatus (Line bytes) status = status ≡ 3
+IsPlanStatus (Blocks task program items) status = (status ≡ 0) ⊎ (status ≡ 1)
+
+-- a stop that carrying out a plan may come to
+abbrev pub IsPlanStop : Stop → Type 0
+IsPlanStop stop = (stop ≡ WriteFault) ⊎ (stop ≡ Memory)
