@@ -1,12 +1,12 @@
-// The line of a term that loading refuses.
+// The lines of terms that refuse the files or the script.
 ghost use Rattle.std.specs.Prelude.{◌≡◌, ◌++◌, IfOk, OnOk, decimal};
-ghost use Rattle.plai_top.specs.Refusal.{lexical_text, key_text, clause_cause_text, cause_text, refusal_text};
+ghost use Rattle.plai_top.specs.Refusal.{lexical_text, cause_text, refusal_text, script_refusal_text};
 
 use itoa::Buffer;
-use plai_clauses::ClauseCause;
 use plai_lex::LexCause;
 use plai_modules::LoadCause;
-use plai_terms::{Name, print_atom, print_quoted};
+use plai_render::write_clause_cause;
+use plai_terms::{Name, print_quoted};
 use std::alloc::{AllocError, Global};
 
 // A part of the text may have been appended after want of memory in the calls that begin with `write_`.
@@ -35,52 +35,6 @@ fn write_lexical(cause: LexCause, at: u64, out: &mut Vec<u8>) -> Result<(), Allo
         LexCause::OpenComment => write_numbered(b"open_comment ", at, out),
         LexCause::BadEscape => write_numbered(b"bad_escape ", at, out),
         LexCause::NumberTooLarge => write_numbered(b"number_too_large ", at, out),
-    }
-}
-
-/// Appends a key: a name and a number of arguments.
-#[tactic(auto, unfolding(crate::specs::Refusal::key_text))]
-fn write_key(alloc: Global, name: &Name, arity: u32, out: &mut Vec<u8>) -> Result<(), AllocError>
-    ensures { OnOk result (out.new.items ≡ out.old.items ++ key_text name.now arity) }
-{
-    print_atom(alloc, name, out)?;
-    out.push(b'/')?;
-    let mut buffer = Buffer::new();
-    out.extend_from_slice(buffer.format(arity).as_bytes())
-}
-
-/// Appends a word and a key.
-fn write_keyed(
-    alloc: Global,
-    word: &[u8],
-    name: &Name,
-    arity: u32,
-    out: &mut Vec<u8>,
-) -> Result<(), AllocError>
-    ensures { OnOk result (out.new.items ≡ out.old.items ++ (word.now ++ key_text name.now arity)) }
-{
-    out.extend_from_slice(word)?;
-    write_key(alloc, name, arity, out)
-}
-
-fn write_clause_cause(
-    alloc: Global,
-    cause: &ClauseCause,
-    out: &mut Vec<u8>,
-) -> Result<(), AllocError>
-    ensures { OnOk result (out.new.items ≡ out.old.items ++ clause_cause_text cause.now) }
-{
-    match cause {
-        ClauseCause::NotAClause => out.extend_from_slice(b"not_a_clause"),
-        ClauseCause::Unsupported(name, arity) => {
-            write_keyed(alloc, b"unsupported ", name, *arity, out)
-        }
-        ClauseCause::ArityTooLarge(arity) => {
-            write_numbered(b"pred_arity ", u64::from(*arity), out)
-        }
-        ClauseCause::TooManySlots(count) => {
-            write_numbered(b"too_many_slots ", u64::from(*count), out)
-        }
     }
 }
 
@@ -121,6 +75,25 @@ pub fn refusal_line(
     write_number(term, &mut line)?;
     line.extend_from_slice(b" ")?;
     write_cause(alloc, cause, &mut line)?;
+    line.push(b'\n')?;
+    Ok(line)
+}
+
+/// The line `refused script T CAUSE`: the number, from 1, of the script's term in which a place has no token, the cause, and
+/// the place, in bytes from 0.
+pub fn script_refusal_line(
+    alloc: Global,
+    term: u64,
+    cause: LexCause,
+    at: u64,
+) -> Result<Vec<u8>, AllocError>
+    ensures { IfOk result (λ line. line.items ≡ script_refusal_text (record { term = term; cause = cause; at = at })) }
+{
+    let mut line = Vec::new(alloc);
+    line.extend_from_slice(b"refused script ")?;
+    write_number(term, &mut line)?;
+    line.extend_from_slice(b" ")?;
+    write_lexical(cause, at, &mut line)?;
     line.push(b'\n')?;
     Ok(line)
 }

@@ -1,0 +1,5 @@
+mod Variables
+mod Parts
+mod Formed
+mod Taken
+mod Changed

@@ -1,0 +1,7 @@
+pub mod OwnTerms
+pub mod Shapes
+pub mod Edits
+pub mod Scripts
+pub mod Readable
+pub mod Checks
+pub mod Answering
