@@ -14,7 +14,7 @@ use Rattle.plai_session.specs.declared.answer.EditAnswer.{EditAnswer}
 use Rattle.plai_session.specs.declared.answer.EditAnswer.TheVariants as answer
 use Rattle.plai_terms.specs.declared.row_name.RowName.{RowName}
 use Rattle.plai_top.specs.Blocks.{Block, table, refused, stopped, text_of, IsBlockOf, is_table_of, many_rows, large_sets, is_refused}
-use Rattle.plai_top.specs.Refused.{refused_text}
+use Rattle.plai_render.specs.Refused.{refused_text}
 use Rattle.plai_top.specs.Writing.{WritesText, IsAnswerFor, IsBlockText, WritesBlock, WritesRefused}
 use Rattle.plai_top.specs.declared.stop.Stop.{Stop}
 use Rattle.plai_top.specs.declared.stop.Stop.TheVariants.{WriteFault, Memory}

@@ -16,7 +16,7 @@ use Rattle.plai_top.specs.Commands.{most_files, is_built_command, IsCommand}
 use Rattle.plai_top.specs.Files.{texts_of, IsSomeLong, is_built_program, HasFiles, HasProgram, HasRefusal}
 use Rattle.plai_top.specs.Blocks.{Block, table, AreBlocksOf, no_more, one_more, IsBlockOf, is_table_of, many_rows, large_sets, is_refused, AreSameUpToStops, none_left, same_block, stop_before, stop_behind}
 use Rattle.plai_top.specs.Outcome.{Outcome, line, done, refused_by, IsByWords, no_command, not_built, too_many, IsEarly, by_words, too_long, refused, unbuilt, IsLoaded, longest_script, IsByScript, script_too_long, script_refused, script_unbuilt, HasEdits, AreBlocks, IsOutcome, early, by_script, blocks, OutcomeIsOne}
-use Rattle.plai_top.specs.Refused.{script_refusal_text}
+use Rattle.plai_top.specs.Refusal.{script_refusal_text}
 use Rattle.plai_top.specs.Tasks.{domain_of, task_of}
 use Rattle.plai_top.specs.declared.task.Task.{Task}
 

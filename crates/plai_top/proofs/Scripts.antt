@@ -6,7 +6,7 @@ use Rattle.plai_script.specs.Checks.{is_without_checks}
 use Rattle.plai_script.specs.Scripts.{ScriptRefusal, script_of}
 use Rattle.plai_script.specs.declared.edit.Edit.{Edit}
 use Rattle.plai_top.specs.Outcome.{line, silent, longest_script, IsByScript, script_too_long, script_refused, script_unbuilt}
-use Rattle.plai_top.specs.Refused.{script_refusal_text}
+use Rattle.plai_top.specs.Refusal.{script_refusal_text}
 use Rattle.plai_top.specs.Scripts.{IsScriptOf}
 use Rattle.plai_top.specs.Stops.{status_of, IsReadEnd}
 use Rattle.plai_top.specs.declared.script.Script.{Script}

@@ -8,7 +8,7 @@ use Rattle.plai_clauses.specs.declared.edit_cause.EditCause.{EditCause}
 use Rattle.plai_eval.specs.LeastTable.{IsLeastTable}
 use Rattle.plai_eval.specs.Stops.{IsOver}
 use Rattle.plai_render.specs.Block.{block_text}
-use Rattle.plai_top.specs.Refused.{refused_text}
+use Rattle.plai_render.specs.Refused.{refused_text}
 use Rattle.plai_render.specs.Stopped.{stopped_text}
 use Rattle.plai_rounds.specs.Causes.{AreTooMany}
 

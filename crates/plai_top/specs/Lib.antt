@@ -7,7 +7,6 @@ pub mod Outcome
 pub mod Outputs
 pub mod Plans
 pub mod Refusal
-pub mod Refused
 pub mod Scripts
 pub mod Stops
 pub mod Tasks

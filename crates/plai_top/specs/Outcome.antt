@@ -17,8 +17,7 @@ use Rattle.plai_words.specs.declared.types.Settings.{Settings}
 use Rattle.plai_top.specs.Blocks.{Block, texts_from, status_of_blocks, AreBlocksOf, AreSameUpToStops}
 use Rattle.plai_top.specs.Commands.{most_files, is_built_command, IsCommand}
 use Rattle.plai_top.specs.Files.{IsSomeLong, name_at, is_built_program, HasProgram, HasRefusal}
-use Rattle.plai_top.specs.Refusal.{refusal_text}
-use Rattle.plai_top.specs.Refused.{script_refusal_text}
+use Rattle.plai_top.specs.Refusal.{refusal_text, script_refusal_text}
 use Rattle.plai_top.specs.Tasks.{domain_of, task_of}
 
 -- a status and the bytes that are written with it

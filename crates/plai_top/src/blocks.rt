@@ -9,12 +9,11 @@ ghost use Rattle.plai_top.specs.Scripts.{AreReadable};
 ghost use Rattle.plai_top.specs.Plans.{IsPlanStop};
 ghost use Rattle.plai_top.specs.Writing.{WritesText, IsAnswerFor, IsBlockText, WritesBlock, WritesRefused, Wrote, WritesBlocks, shows_table};
 
-use crate::refused_stub::render_refused;
 use crate::stop::Stop;
 use plai_base::{Sink, Steps, write_whole};
 use plai_clauses::Program;
 use plai_domain::{Domain, Work};
-use plai_render::{TextRow, render_stopped, render_texts};
+use plai_render::{TextRow, render_refused, render_stopped, render_texts};
 use plai_script::{Edit, EditCause};
 use plai_session::{EditAnswer, Session};
 use std::alloc::{AllocError, Global};

@@ -8,7 +8,6 @@ mod input;
 mod loading;
 mod plan;
 mod refusal;
-mod refused_stub;
 mod script;
 mod stop;
 mod task;

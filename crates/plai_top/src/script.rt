@@ -8,7 +8,7 @@ ghost use Rattle.plai_top.specs.Plans.{IsScriptStop};
 ghost use Rattle.plai_top.specs.Scripts.{IsScriptOf, HasScriptLine, HasReadableEdits};
 ghost use Rattle.plai_top.specs.Stops.{status_of, IsReadEnd};
 
-use crate::refused_stub::script_refusal_line;
+use crate::refusal::script_refusal_line;
 use crate::stop::Stop;
 use plai_base::{ReadFail, Source, read_whole};
 use plai_script::{Edit, EditCause, ScriptFail, is_without_checks, read_script};
