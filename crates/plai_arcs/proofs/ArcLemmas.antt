@@ -1,7 +1,7 @@
 -- Calls as a relation.
 use Rattle.std.proofs.Common.{◌≡◌, ℕ, ◌<◌, ◌≤◌, Bool, true, false, cond, ◌&&◌, nat_eq, nat_lt, Option, None, Some, IfSome, List, [], refl, sym, ap, ◌∙◌, subst, arith}
 use Rattle.std.specs.List.{count_by, list_any}
-use Rattle.std.proofs.lemmas.Bool.{eqb-true, eq-eqb, ne_eqb}
+use Rattle.std.proofs.lemmas.Bool.{eq-eqb, ne_eqb}
 use Rattle.plai_arcs.specs.declared.row_calls.RowCalls.{RowCalls}
 use Rattle.plai_arcs.specs.declared.callers.Callers.{Callers}
 use Rattle.plai_arcs.specs.Links.{AreLinked, calls_at, callers_at, call_count, caller_count, is_pair, one_if}

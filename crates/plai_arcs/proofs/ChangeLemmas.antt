@@ -1,10 +1,8 @@
 -- Changes of lists at places.
-use Rattle.std.proofs.Common.{◌≡◌, ℕ, zero, suc, ◌+◌, ◌-◌, ◌<◌, ◌≤◌, Bool, true, false, cond, ◌&&◌, nat_eq, List, [], ◌∷◌, ◌++◌, length, slice_set, slice_index_or, refl, sym, ap, ◌∙◌, subst, arith}
-use Rattle.std.specs.List.{count_by}
+use Rattle.std.proofs.Common.{◌≡◌, ℕ, ◌+◌, ◌-◌, ◌<◌, ◌≤◌, Bool, true, false, cond, ◌&&◌, nat_eq, List, [], length, slice_set, slice_index_or, refl, sym, ap, ◌∙◌, subst, arith}
 use Rattle.std.proofs.lemmas.Bool.{eqb-true}
 use Rattle.plai_arcs.specs.declared.change.Change.{Change}
 use Rattle.plai_arcs.specs.declared.change.Change.TheVariants.{Push, Take, Rename, Mark}
-use Rattle.plai_arcs.specs.declared.row_calls.Called.{Called}
 use Rattle.plai_arcs.specs.declared.row_calls.RowCalls.{RowCalls}
 use Rattle.plai_arcs.specs.Changes.{changed, IsFound, CanChange, room_taken}
 use Rattle.plai_arcs.specs.Links.{calls_in, calls_at, clause_room, call_room}

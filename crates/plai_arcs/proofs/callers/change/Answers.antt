@@ -1,7 +1,7 @@
-use Rattle.std.proofs.Common.{ℕ, ◌-◌, [], nat_eq, refl}
+use Rattle.std.proofs.Common.{ℕ, [], refl}
 use Rattle.plai_arcs.specs.declared.callers.Callers.{Callers}
 use Rattle.plai_arcs.specs.Changes.{changed, room_taken}
-use Rattle.plai_arcs.specs.Links.{is_pair, called_room, callers_room}
+use Rattle.plai_arcs.specs.Links.{is_pair, callers_room}
 use Rattle.plai_arcs.proofs.PlaceLemmas.{at_written}
 use Rattle.plai_arcs.proofs.ChangeLemmas.{room_written, found_there, can_there, past_items, past_found, no_less_by}
 use Rattle.plai_arcs.proofs.callers.change.Goals as goal

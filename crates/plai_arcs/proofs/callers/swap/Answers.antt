@@ -1,7 +1,5 @@
-use Rattle.std.proofs.Common.{◌<◌, false, [], List, length, ap, ◌∙◌, arith}
+use Rattle.std.proofs.Common.{◌<◌, [], length, ap, ◌∙◌, arith}
 use Rattle.plai_arcs.specs.declared.callers.Callers.{Callers}
-use Rattle.plai_arcs.specs.Flags.{flag_at}
-use Rattle.plai_arcs.specs.Links.{calls_in}
 use Rattle.plai_arcs.specs.Places.{at}
 use Rattle.plai_arcs.proofs.RenameLemmas.{at_swap, at_no_swap}
 use Rattle.plai_arcs.proofs.callers.swap.Goals as goal

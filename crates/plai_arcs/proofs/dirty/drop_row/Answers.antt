@@ -1,4 +1,4 @@
-use Rattle.std.proofs.Common.{◌≡◌, ℕ, ◌<◌, false, nat_eq, Option, Some, sym, ◌∙◌, subst, arith}
+use Rattle.std.proofs.Common.{◌≡◌, ℕ, Option, sym, ◌∙◌, subst}
 use Rattle.plai_arcs.specs.Dirty.{dirty_at}
 use Rattle.plai_arcs.specs.Moves.{was, of_row}
 use Rattle.plai_arcs.proofs.ArcLemmas.{dropped_none, dropped_some, is_none, later_differs, less_last}

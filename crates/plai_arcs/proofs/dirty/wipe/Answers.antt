@@ -1,4 +1,4 @@
-use Rattle.std.proofs.Common.{Bool, cond, false, nat_eq, ap, ◌∙◌}
+use Rattle.std.proofs.Common.{cond, false, nat_eq, ap, ◌∙◌}
 use Rattle.plai_arcs.specs.declared.dirty_row.DirtyRow.{DirtyRow}
 use Rattle.plai_arcs.specs.Dirty.{dirty_at}
 use Rattle.plai_arcs.specs.Flags.{flag_at}

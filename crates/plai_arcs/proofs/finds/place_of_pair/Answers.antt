@@ -1,4 +1,4 @@
-use Rattle.std.proofs.Common.{◌≡◌, false, nat_eq}
+use Rattle.std.proofs.Common.{◌≡◌, false}
 use Rattle.plai_arcs.specs.Links.{is_pair}
 use Rattle.plai_arcs.specs.Places.{at}
 use Rattle.plai_arcs.proofs.CountLemmas.{count_passes}

@@ -1,4 +1,4 @@
-use Rattle.std.proofs.Common.{ℕ, ◌<◌, ◌-◌, nat_eq, drop, length}
+use Rattle.std.proofs.Common.{◌<◌, ◌-◌, drop, length}
 use Rattle.std.specs.List.{count_by}
 use Rattle.plai_arcs.specs.Links.{is_pair}
 use Rattle.plai_arcs.proofs.finds.place_of_pair.Given as goal

@@ -1,5 +1,4 @@
 use Rattle.std.proofs.Common.{◌≡◌, false, nat_eq}
-use Rattle.plai_arcs.specs.Links.{is_pair}
 use Rattle.plai_arcs.specs.Places.{at}
 use Rattle.plai_arcs.proofs.CountLemmas.{count_passes}
 use Rattle.plai_arcs.proofs.finds.place_of_row.Goals as goal

@@ -1,6 +1,5 @@
-use Rattle.std.proofs.Common.{ℕ, ◌<◌, ◌-◌, nat_eq, drop, length}
+use Rattle.std.proofs.Common.{◌<◌, ◌-◌, nat_eq, drop, length}
 use Rattle.std.specs.List.{count_by}
-use Rattle.plai_arcs.specs.Links.{is_pair}
 use Rattle.plai_arcs.proofs.finds.place_of_row.Given as goal
 
 abbrev pub invariant-find : goal.invariant-find

@@ -1,6 +1,6 @@
-use Rattle.std.proofs.Common.{◌≡◌, ℕ, ◌+◌, ◌<◌, Bool, ◌&&◌, nat_eq, sym, ap, ◌∙◌, subst}
+use Rattle.std.proofs.Common.{ℕ, ◌+◌, ◌<◌, ◌&&◌, nat_eq, sym, ap, ◌∙◌, subst}
 use Rattle.std.specs.List.{count_by}
-use Rattle.plai_arcs.specs.Links.{calls_at, callers_at, is_pair, one_if}
+use Rattle.plai_arcs.specs.Links.{is_pair, one_if}
 use Rattle.plai_arcs.proofs.PlaceLemmas.{through}
 use Rattle.plai_arcs.proofs.CutLemmas.{cut_linked}
 use Rattle.plai_arcs.proofs.links.cut.Goals as goal

@@ -1,4 +1,3 @@
-use Rattle.std.proofs.Common.{ℕ, ◌&&◌, nat_eq}
 use Rattle.plai_arcs.proofs.CutLemmas.{call_cut, takes_none}
 use Rattle.plai_arcs.proofs.links.cut_call.Goals as goal
 

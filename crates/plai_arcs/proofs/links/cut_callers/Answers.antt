@@ -1,4 +1,4 @@
-use Rattle.std.proofs.Common.{ℕ, nat_eq}
+use Rattle.std.proofs.Common.{nat_eq}
 use Rattle.plai_arcs.specs.Links.{call_count}
 use Rattle.plai_arcs.proofs.CutLemmas.{caller_there, cut_other_rows, cut_fewer_callers, no_some, none_left, none_calls}
 use Rattle.plai_arcs.proofs.links.cut_callers.Goals as goal

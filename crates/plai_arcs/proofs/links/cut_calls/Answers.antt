@@ -1,4 +1,4 @@
-use Rattle.std.proofs.Common.{ℕ, ◌&&◌, nat_eq}
+use Rattle.std.proofs.Common.{◌&&◌, nat_eq}
 use Rattle.plai_arcs.specs.Links.{call_count}
 use Rattle.plai_arcs.proofs.PlaceLemmas.{through}
 use Rattle.plai_arcs.proofs.CutLemmas.{call_there, cut_others, cut_fewer, no_some, none_left, none_called}

@@ -1,4 +1,4 @@
-use Rattle.std.proofs.Common.{ℕ, ◌&&◌, nat_eq, ap, refl, arith}
+use Rattle.std.proofs.Common.{nat_eq, ap, refl, arith}
 use Rattle.std.specs.List.{count_by}
 use Rattle.plai_arcs.specs.Links.{call_count}
 use Rattle.plai_arcs.proofs.CutLemmas.{clause_cut, clause_gone, clause_past, none_left, row_gone}

@@ -1,4 +1,4 @@
-use Rattle.std.proofs.Common.{ℕ, cond, nat_eq, ap, ◌∙◌}
+use Rattle.std.proofs.Common.{cond, nat_eq, ap, ◌∙◌}
 use Rattle.plai_arcs.proofs.links.cut_row.Goals as goal
 
 pub returns-clause-calls : goal.returns-clause-calls

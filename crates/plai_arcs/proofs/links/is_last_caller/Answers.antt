@@ -1,4 +1,4 @@
-use Rattle.std.proofs.Common.{◌≡◌, ℕ, ◌<◌, false, nat_eq, length, sym, ap, ◌∙◌}
+use Rattle.std.proofs.Common.{◌≡◌, false, nat_eq, length, sym, ap, ◌∙◌}
 use Rattle.plai_arcs.specs.Links.{last_is}
 use Rattle.plai_arcs.proofs.CountLemmas.{last_at}
 use Rattle.plai_arcs.proofs.CutLemmas.{nonzero}

@@ -1,4 +1,4 @@
-use Rattle.std.proofs.Common.{◌≡◌, ℕ, ◌+◌, ◌≤◌, ◌&&◌, cond, nat_eq, ap, subst}
+use Rattle.std.proofs.Common.{◌+◌, ◌≤◌, cond, ap, subst}
 use Rattle.plai_arcs.specs.Links.{call_room}
 use Rattle.plai_arcs.proofs.CountLemmas.{pair_itself}
 use Rattle.plai_arcs.proofs.links.link.Goals as goal

@@ -1,4 +1,4 @@
-use Rattle.std.proofs.Common.{◌≡◌, ℕ, ◌&&◌, true, false, cond, nat_eq, slice_index_or, ap, ◌∙◌}
+use Rattle.std.proofs.Common.{◌≡◌, ◌&&◌, true, false, cond, nat_eq, slice_index_or, ap, ◌∙◌}
 use Rattle.std.specs.List.{list_any}
 use Rattle.plai_arcs.specs.Links.{callers_at, call_count, last_is, one_if}
 use Rattle.plai_arcs.proofs.JoinLemmas.{joined_none, joined_already, joined_now, caller_fits_now, index_default}

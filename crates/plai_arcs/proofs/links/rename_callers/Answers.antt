@@ -1,4 +1,4 @@
-use Rattle.std.proofs.Common.{◌≡◌, ℕ, ◌+◌, ◌≤◌, cond, nat_eq, nat_lt, ap, ◌∙◌, subst, arith}
+use Rattle.std.proofs.Common.{◌≡◌, ◌+◌, cond, nat_eq, nat_lt, ap, ◌∙◌, subst, arith}
 use Rattle.std.specs.List.{count_by}
 use Rattle.plai_arcs.specs.Links.{call_count, caller_count}
 use Rattle.plai_arcs.proofs.RenameLemmas.{still_same, not_below_itself, renamed_clause, covered}

@@ -1,4 +1,4 @@
-use Rattle.std.proofs.Common.{ℕ, sym, ap, ◌∙◌}
+use Rattle.std.proofs.Common.{sym, ap, ◌∙◌}
 use Rattle.std.specs.List.{count_by}
 use Rattle.plai_arcs.specs.Links.{is_pair}
 use Rattle.plai_arcs.proofs.RenameLemmas.{still_named, named_more}

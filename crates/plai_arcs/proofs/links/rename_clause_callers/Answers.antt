@@ -1,4 +1,4 @@
-use Rattle.std.proofs.Common.{ℕ, nat_eq, sym, ap, ◌∙◌}
+use Rattle.std.proofs.Common.{nat_eq, sym, ap, ◌∙◌}
 use Rattle.std.specs.List.{count_by}
 use Rattle.plai_arcs.proofs.RenameLemmas.{still_caller, renamed_next}
 use Rattle.plai_arcs.proofs.links.rename_clause_callers.Goals as goal

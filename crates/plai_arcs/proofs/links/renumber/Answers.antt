@@ -1,4 +1,4 @@
-use Rattle.std.proofs.Common.{ℕ, sym, ◌∙◌}
+use Rattle.std.proofs.Common.{sym, ◌∙◌}
 use Rattle.plai_arcs.specs.Links.{calls_at, callers_at}
 use Rattle.plai_arcs.specs.Moves.{swapped}
 use Rattle.plai_arcs.proofs.RenameLemmas.{named, none_listed, none_paired, still_old, renumbered, renumber_linked}

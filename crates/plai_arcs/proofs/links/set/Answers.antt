@@ -1,4 +1,4 @@
-use Rattle.std.proofs.Common.{◌≡◌, ℕ, ◌<◌, ◌&&◌, cond, nat_eq, ap, ◌∙◌}
+use Rattle.std.proofs.Common.{◌&&◌, cond, nat_eq, ap, ◌∙◌}
 use Rattle.std.specs.List.{list_any}
 use Rattle.plai_arcs.specs.Links.{call_count, one_if}
 use Rattle.plai_arcs.proofs.PlaceLemmas.{up_to}

@@ -1,4 +1,4 @@
-use Rattle.std.proofs.Common.{ℕ, ◌&&◌, nat_eq, ◌∙◌}
+use Rattle.std.proofs.Common.{◌∙◌}
 use Rattle.plai_arcs.proofs.CutLemmas.{stays, takes_none}
 use Rattle.plai_arcs.proofs.links.tell_place.Goals as goal
 

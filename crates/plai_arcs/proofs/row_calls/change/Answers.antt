@@ -1,4 +1,4 @@
-use Rattle.std.proofs.Common.{ℕ, ◌-◌, nat_eq, refl}
+use Rattle.std.proofs.Common.{◌-◌, nat_eq, refl}
 use Rattle.plai_arcs.specs.declared.row_calls.RowCalls.{RowCalls}
 use Rattle.plai_arcs.specs.Changes.{changed, room_taken}
 use Rattle.plai_arcs.specs.Links.{calls_in, clause_room}

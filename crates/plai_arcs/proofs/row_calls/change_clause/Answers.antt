@@ -1,4 +1,4 @@
-use Rattle.std.proofs.Common.{ℕ, ◌-◌, ◌+◌, ◌<◌, ◌≤◌, [], length, nat_eq, refl, sym, ap, ◌∙◌, subst, arith}
+use Rattle.std.proofs.Common.{◌-◌, ◌+◌, ◌<◌, ◌≤◌, [], length, nat_eq, refl, sym, ap, ◌∙◌, subst, arith}
 use Rattle.plai_arcs.specs.declared.row_calls.Called.{Called}
 use Rattle.plai_arcs.specs.Changes.{changed, IsFound, CanChange, room_taken}
 use Rattle.plai_arcs.specs.Links.{called_room}

@@ -1,4 +1,4 @@
-use Rattle.std.proofs.Common.{ℕ, ap, ◌∙◌}
+use Rattle.std.proofs.Common.{ap, ◌∙◌}
 use Rattle.std.specs.List.{count_by}
 use Rattle.plai_arcs.specs.Links.{callers_at, is_pair}
 use Rattle.plai_arcs.proofs.ArcLemmas.{callers_once}

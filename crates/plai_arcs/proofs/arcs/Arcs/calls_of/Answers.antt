@@ -1,4 +1,4 @@
-use Rattle.std.proofs.Common.{ℕ, nat_eq, ap, ◌∙◌}
+use Rattle.std.proofs.Common.{nat_eq, ap, ◌∙◌}
 use Rattle.std.specs.List.{count_by}
 use Rattle.plai_arcs.specs.Links.{calls_at}
 use Rattle.plai_arcs.proofs.ArcLemmas.{calls_once}

@@ -1,4 +1,4 @@
-use Rattle.std.proofs.Common.{ℕ, refl}
+use Rattle.std.proofs.Common.{refl}
 use Rattle.plai_arcs.proofs.ArcLemmas.{linked_same}
 use Rattle.plai_arcs.proofs.arcs.Arcs.reserve.Goals as goal
 
