@@ -1,21 +1,34 @@
 #!/usr/bin/env bash
-# Measures how fast plai reads and loads, and how much memory that takes: files of facts, of strings, of lists nested to the
-# limit, of round brackets, of operators, of facts of different predicates, of entries, and several files that import from
-# one another, each at two sizes, so that growth shows. Only the entries are analysed, and no clause belongs to them, so that
-# reading and loading is nearly all the work. Prints milliseconds, bytes per second, and bytes of memory per byte of text.
+# Measures how fast plai reads and loads, and how much memory that takes: files of facts, of ordinary clauses, of strings, of lists
+# nested to the limit, of round brackets, of operators, of facts of one predicate and of different ones, of entries, of checks,
+# several files that import from one another, and 16 and 64 files of strings, each as long as a file may be. Each shape has two
+# sizes, so that growth shows. Only the entries are analysed, and no clause belongs to them, so that reading and loading is nearly
+# all the work. The words are shapes; where there are none it measures all. Prints milliseconds, bytes per second, and bytes of
+# memory per byte of text.
 set -eu
 here=$(cd "$(dirname "$0")/.." && pwd)
 folder=$(mktemp -d)
 trap 'rm -rf "$folder"' EXIT
+[ $# -gt 0 ] || set -- facts clauses strings lists brackets operators predicate predicates entries checks imports files
 
-python3 - "$folder" <<'PYTHON'
+python3 - "$folder" "$@" <<'PYTHON'
 import os, sys
 
-folder = sys.argv[1]
+folder, wanted = sys.argv[1], sys.argv[2:]
 head = ":- module(m, [])."
+
+CLAUSES = [
+    "app{}([], L, L).",
+    "app{}([H|T], L, [H|R]) :- app{}(T, L, R).",
+    "rev{}([H|T], R) :- rev{}(T, S), app{}(S, [H], R).",
+    "part{}([X|Xs], P, [X|L], G) :- X =< P, part{}(Xs, P, L, G).",
+    "sum{}([X|Xs], A, S) :- B is A + X, sum{}(Xs, B, S).",
+]
 
 
 def write(shape, size, files):
+    if shape not in wanted:
+        return
     os.makedirs(f"{folder}/{shape}/{size}")
     for name, lines in files.items():
         with open(f"{folder}/{shape}/{size}/{name}.pl", "w") as out:
@@ -25,13 +38,14 @@ def write(shape, size, files):
 # files of a number of bytes
 shapes = {
     "facts": lambda i: f"edge(node_{i:06d}, [a, B{i}|Rest], f(X, \"ab\", Rest), {i}).",
+    "clauses": lambda i: CLAUSES[i % 5].replace("{}", str(i // 5)),
     "strings": lambda i: "s(\"" + "x" * 1900 + "\").",
     "lists": lambda i: "l(" + "[" * 1900 + "]" * 1900 + ").",
     "brackets": lambda i: "b(" + "(" * 100000 + "a" + ")" * 100000 + ").",
     "operators": lambda i: "o(X) :- " + ", ".join("p(X)" for _ in range(300)) + ".",
 }
 for shape, line in shapes.items():
-    for size in (1_000_000, 4_000_000):
+    for size in (1_000_000, 4_000_000) if shape in wanted else ():
         lines, length, i = [head], 20, 0
         while True:
             item = line(i)
@@ -45,7 +59,9 @@ for shape, line in shapes.items():
 # files of a number of items
 for size in (16_000, 64_000):
     write("predicates", size, {"a": [head] + [f"p{i}(a)." for i in range(size)]})
+    write("predicate", size, {"a": [head] + [f"p({i})." for i in range(size)]})
     write("entries", size, {"a": [head] + [f":- entry p(X) : ground(X)." for _ in range(size)]})
+    write("checks", size, {"a": [head] + [f":- check success p(X) : ground(X) => int(X)." for _ in range(size)]})
 
 # a file that imports all that 10 or 40 others export, 1,990 predicates each, with as many facts as fit
 for count in (10, 40):
@@ -53,9 +69,14 @@ for count in (10, 40):
     for i in range(count):
         files[f"x{i:02d}"] = [f":- module(x{i}, [" + ",".join(f"q{i}_{k}/1" for k in range(1990)) + "])."]
     write("imports", count, files)
+
+# files as long as one may be, with fewer items together than a program may have
+fact = "s(" + ", ".join(["\"" + "x" * 1900 + "\""] * 3) + ")."
+for count in (16, 64):
+    write("files", count, {f"s{i:02d}": [f":- module(s{i}, [])."] + [fact] * (4_194_000 // (len(fact) + 1)) for i in range(count)})
 PYTHON
 
-for shape in facts strings lists brackets operators predicates entries imports; do
+for shape in "$@"; do
   for size in $(ls "$folder/$shape" | sort -n); do
     bytes=$(cat "$folder/$shape/$size"/*.pl | wc -c)
     read -r status ms peak <<< "$(python3 - "$here/plai" "$folder/$shape/$size"/*.pl <<'PYTHON'
