@@ -1,0 +1,3 @@
+pub mod WorkStates
+pub mod Changes
+pub mod Logs
