@@ -2,3 +2,8 @@ pub mod Places
 pub mod Steps
 pub mod Working
 pub mod Ends
+pub mod Values
+pub mod Parts
+pub mod Evaluated
+pub mod Keys
+pub mod LookedUp

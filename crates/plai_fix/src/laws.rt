@@ -1,12 +1,12 @@
 ghost use Rattle.std.specs.Prelude.{◌≡◌, ◌≢◌, ◌↔◌, ℕ, suc, ◌≤◌, ◌<◌, Bool, true, false, not, ◌&&◌, ◌||◌, nat_eq, List, [], ◌∷◌, ◌++◌, Option, Some, None, IsSome};
 ghost use Rattle.plai_theory.specs.Words.{IsIn, item};
 ghost use Rattle.plai_theory.specs.Domain.{Program, IsLawful};
-ghost use Rattle.plai_theory.specs.Evaluation.{NameOf};
+ghost use Rattle.plai_theory.specs.Evaluation.{NameOf, answer_of, calls_of};
 ghost use Rattle.plai_theory.specs.LegalWork.{WorkRow, Work, LogEntry, find, present_source, next_answer, IsDemanded, live_count, no_work, after_all, IsEnd};
 ghost use Rattle.plai_theory.specs.LegalWork.{Made, Evaluated, Grew};
 ghost use Rattle.plai_theory.specs.Limits.{IsOverAt};
 ghost use Rattle.plai_theory.specs.Claims.{IsStoppedLog};
-ghost use Rattle.plai_fix.specs.WorkStates.{Keeping, clause_at, IsNamed, IsMet, IsFull};
+ghost use Rattle.plai_fix.specs.WorkStates.{Keeping, kept_source, clause_at, IsNamed, IsMet, IsFull};
 ghost use Rattle.plai_fix.specs.Changes.{Clears, SetsCalls, Answers, Makes};
 ghost use Rattle.plai_fix.specs.Logs.{IsLogged, IsWorking, IsEvaluated};
 
@@ -92,4 +92,24 @@ pub fn end_laws<T: AnyDomain>()
         → (x : NameOf T.domain) → IsIn x g.entries → limit ≤ live_count T.domain (after_all T.domain g start log).rows
         → ((q : WorkRow T.domain) → find T.domain (after_all T.domain g start log).rows x ≡ Some q → q.live ≡ false)
         → IsStoppedLog T.domain g limit start log x × (live_count T.domain (after_all T.domain g start log).rows ≡ limit) }
+{}
+
+/// What is kept of work that began with no rows.
+pub fn value_laws<T: AnyDomain>()
+    // Names and answers are values, and no name has two rows.
+    ensures names { (g : Program T.domain) → IsLawful T.domain g → (limit : ℕ) (log : List (LogEntry T.domain)) (k : Keeping T.domain) (open_pair : Option (ℕ × ℕ))
+        → IsLogged T.domain g T.limits limit (no_work T.domain) log k open_pair → (n : ℕ) (x : NameOf T.domain) → IsNamed T.domain k.rows n x → T.domain.leq x.pred x.call x.call }
+    ensures answers { (g : Program T.domain) → IsLawful T.domain g → (limit : ℕ) (log : List (LogEntry T.domain)) (k : Keeping T.domain) (open_pair : Option (ℕ × ℕ))
+        → IsLogged T.domain g T.limits limit (no_work T.domain) log k open_pair → (p : T.domain.Pred) (v a : T.domain.Value) → T.domain.leq p v v
+        → kept_source T.domain k.rows p v ≡ Some a → T.domain.leq p a a }
+    ensures one_row { (g : Program T.domain) → IsLawful T.domain g → (limit : ℕ) (log : List (LogEntry T.domain)) (k : Keeping T.domain) (open_pair : Option (ℕ × ℕ))
+        → IsLogged T.domain g T.limits limit (no_work T.domain) log k open_pair → (i j : ℕ) (y : NameOf T.domain) → IsNamed T.domain k.rows i y → IsNamed T.domain k.rows j y → i ≡ j }
+
+    // Evaluations under what is kept are those under the rows of the work.
+    ensures same_answer { (g : Program T.domain) → IsLawful T.domain g → (limit : ℕ) (log : List (LogEntry T.domain)) (k : Keeping T.domain) (open_pair : Option (ℕ × ℕ))
+        → IsLogged T.domain g T.limits limit (no_work T.domain) log k open_pair → (c : T.domain.Clause) (v : T.domain.Value)
+        → answer_of T.domain (kept_source T.domain k.rows) c v ≡ answer_of T.domain (present_source T.domain (after_all T.domain g (no_work T.domain) log).rows) c v }
+    ensures same_calls { (g : Program T.domain) → IsLawful T.domain g → (limit : ℕ) (log : List (LogEntry T.domain)) (k : Keeping T.domain) (open_pair : Option (ℕ × ℕ))
+        → IsLogged T.domain g T.limits limit (no_work T.domain) log k open_pair → (c : T.domain.Clause) (v : T.domain.Value)
+        → calls_of T.domain (kept_source T.domain k.rows) c v ≡ calls_of T.domain (present_source T.domain (after_all T.domain g (no_work T.domain) log).rows) c v }
 {}
