@@ -1,5 +1,5 @@
 -- Marks of clauses of rows.
-use Rattle.std.proofs.Common.{◌≡◌, ℕ, ◌<◌, ◌≤◌, Bool, true, false, ◌&&◌, ◌||◌, not, nat_eq, List, length, slice_set, slice_index_or, refl, sym, ap, ◌∙◌, subst}
+use Rattle.std.proofs.Common.{◌≡◌, ℕ, ◌<◌, ◌≤◌, Bool, true, false, cond, ◌&&◌, ◌||◌, not, nat_eq, List, length, slice_set, slice_index_or, refl, sym, ap, ◌∙◌, subst}
 use Rattle.std.proofs.lemmas.Bool.{eqb-true}
 use Rattle.plai_arcs.specs.declared.dirty_row.DirtyRow.{DirtyRow}
 use Rattle.plai_arcs.specs.Flags.{flag_at}
@@ -39,3 +39,10 @@ pub row_marks : (rows : List DirtyRow) (row : ℕ) (e : DirtyRow) → row < leng
     → ◌≡◌ {A = ℕ → Bool} (λ c. dirty_at rows row c) (λ c. flag_at e.flags.items c)
 row_marks rows row e h is i c =
     (at_index (λ (d : DirtyRow). flag_at d.flags.items c) false rows row e h ∙ ap (λ (d : DirtyRow). flag_at d.flags.items c) (sym is)) i
+
+pub past_wiped : (rows : List DirtyRow) (row : ℕ) → length rows ≤ row → (r c : ℕ) → dirty_at rows r c ≡ cond (nat_eq r row) false (dirty_at rows r c)
+past_wiped rows row h r c = by (nat_eq r row) refl
+  where
+    by : (b : Bool) → nat_eq r row ≡ b → dirty_at rows r c ≡ cond b false (dirty_at rows r c)
+    by true t = at_past (λ (d : DirtyRow). flag_at d.flags.items c) false rows r (subst (λ j. length rows ≤ j) (sym (eqb-true r row t)) h)
+    by false t = refl

@@ -1,3 +1,9 @@
 pub mod PlaceLemmas
 pub mod DirtyLemmas
 pub mod LinkLemmas
+pub mod CountLemmas
+pub mod ChangeLemmas
+pub mod CutLemmas
+pub mod JoinLemmas
+pub mod RenameLemmas
+pub mod ArcLemmas

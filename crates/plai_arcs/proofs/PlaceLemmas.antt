@@ -1,5 +1,5 @@
 -- Lists as functions of a place, under writes.
-use Rattle.std.proofs.Common.{◌≡◌, ◌≢◌, ℕ, zero, suc, ◌+◌, ◌-◌, ◌<◌, ◌≤◌, Bool, true, false, cond, if◌then◌else◌, ◌&&◌, ◌||◌, not, nat_eq, List, [], ◌∷◌, ◌++◌, length, slice_get, slice_set, slice_index_or, Result, Ok, Err, OnOk, Some, refl, sym, ap, ◌∙◌, subst, arith}
+use Rattle.std.proofs.Common.{◌≡◌, ◌≢◌, ℕ, zero, suc, ◌+◌, ◌-◌, ◌<◌, ◌≤◌, Bool, true, false, cond, if◌then◌else◌, ◌&&◌, ◌||◌, not, nat_eq, List, [], ◌∷◌, ◌++◌, length, slice_get, slice_set, slice_index_or, Result, Ok, Err, OnOk, IsOk, min, Some, refl, sym, ap, ◌∙◌, subst, arith}
 use Rattle.std.proofs.Math.Dec.{eqb-suc-suc, eqb-suc-zero, eqb-zero-suc}
 use Rattle.std.proofs.lemmas.Bool.{ne_eqb, eqb-true, eq-eqb}
 use Rattle.plai_arcs.specs.Places.{at}
@@ -183,17 +183,16 @@ pub on_ok : {T E : Type 0} (r : Result T E) {P Q : Type 0} → (P → Q) → OnO
 on_ok (Ok t) h p = h p
 on_ok (Err e) h p = tt
 
-pub one_more_fits : (len count room : ℕ) → len + count ≤ room → count < suc room - len
-one_more_fits len count room h = omega arith
+-- room in two lists
+pub fits_first : (n a b c d : ℕ) → n < min (suc b - a) (suc d - c) → a + n ≤ b
+fits_first n a b c d h = omega arith
 
-pub fits_one_more : (len count room : ℕ) → count < suc room - len → len + count ≤ room
-fits_one_more len count room h = omega arith
+pub fits_second : (n a b c d : ℕ) → n < min (suc b - a) (suc d - c) → c + n ≤ d
+fits_second n a b c d h = omega arith
 
-pub room_left : (len room : ℕ) → len + 1 ≤ room → 0 < room - len
-room_left len room h = omega arith
+pub one_fits_first : (n a b c d : ℕ) → 0 < min (b - a) (d - c) → a + 1 ≤ b
+one_fits_first n a b c d h = omega arith
 
-pub left_room : (len room : ℕ) → 0 < room - len → len + 1 ≤ room
-left_room len room h = omega arith
-
-pub no_less_room : (len new room more : ℕ) → new ≡ len → room ≤ more → room - len ≤ more - new
-no_less_room len new room more e h = omega arith
+pub not_ok : {T E : Type 0} (r : Result T E) (e : E) → r ≡ Err e → IsOk r → ⊥
+not_ok (Ok t) e h k = cc
+not_ok (Err x) e h k = cc

@@ -1,6 +1,7 @@
 //! The dirty clauses of all rows.
-ghost use Rattle.std.specs.Prelude.{◌≡◌, ◌<◌, ℕ, ◌&&◌, ◌||◌, not, nat_eq, true, false, OnOk, IsOk, IfSome, IfNone};
+ghost use Rattle.std.specs.Prelude.{◌≡◌, ◌<◌, ℕ, ◌&&◌, ◌||◌, cond, not, nat_eq, true, false, OnOk, IsOk, IfSome, IfNone};
 ghost use Rattle.plai_arcs.specs.Dirty.{dirty_at, HasPlace};
+ghost use Rattle.plai_arcs.specs.Moves.{swapped, was, of_row};
 
 use crate::dirty_row::DirtyRow;
 use std::alloc::{AllocError, Global};
@@ -51,5 +52,36 @@ pub(crate) fn least(rows: &[DirtyRow], row: u64) -> Option<u64>
         rows[row as usize].least()
     } else {
         None
+    }
+}
+
+/// Takes all marks of the row away.
+fn wipe(rows: &mut [DirtyRow], row: u64)
+    ensures { (r c : ℕ) → dirty_at rows.new r c ≡ cond (nat_eq r row) false (dirty_at rows.old r c) }
+{
+    if row < rows.len() as u64 {
+        rows[row as usize].wipe();
+    }
+}
+
+/// Swaps the marks of a row that has none and of a later one.
+fn swap(rows: &mut [DirtyRow], row: u64, last: u64)
+    requires less { row < last }
+    requires none { (c : ℕ) → dirty_at rows.old row c ≡ false }
+    ensures { (r c : ℕ) → dirty_at rows.new r c ≡ dirty_at rows.old (swapped row last r) c }
+{
+    if last < rows.len() as u64 {
+        rows.swap(row as usize, last as usize);
+    }
+}
+
+/// Takes all marks of the row away. Then the row that is moved has its number.
+pub(crate) fn drop_row(rows: &mut [DirtyRow], row: u64, moved: Option<u64>)
+    requires { IfSome moved (λ last. row < last) }
+    ensures { (r c : ℕ) → dirty_at rows.new r c ≡ of_row (was row moved r) (λ b. dirty_at rows.old b c) }
+{
+    wipe(rows, row);
+    if let Some(last) = moved {
+        swap(rows, row, last);
     }
 }

@@ -1,14 +1,14 @@
-//! Which clauses of a table's rows are to be evaluated, and room for what they call.
+//! Which clauses of a table's rows are to be evaluated, and which rows clauses call.
 #![tactic(auto)]
 
 mod arcs;
 mod callers;
+mod change;
 mod dirty;
 mod dirty_row;
+mod finds;
+mod links;
 mod marks;
 mod row_calls;
 
 pub use arcs::Arcs;
-
-#[cfg(test)]
-mod tests;

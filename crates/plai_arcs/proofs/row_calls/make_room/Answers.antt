@@ -1,14 +1,14 @@
 use Rattle.std.proofs.Common.{ℕ, ◌<◌, List, [], length, is_ok, sym, ap, ◌∙◌, subst, arith}
-use Rattle.smallvec.specs.SmallVec.{SmallVec}
+use Rattle.plai_arcs.specs.declared.row_calls.Called.{Called}
 use Rattle.plai_arcs.specs.declared.row_calls.RowCalls.{RowCalls}
-use Rattle.plai_arcs.specs.Links.{items_at, clause_room}
+use Rattle.plai_arcs.specs.Links.{calls_in, clause_room}
 use Rattle.plai_arcs.proofs.PlaceLemmas.{at_pushed, more_pushed, within, at_unchanged, at_same_place, at_index, through, up_to, on_ok}
 use Rattle.plai_arcs.proofs.row_calls.make_room.Goals as goal
 
 pub grow-preserved : goal.grow-preserved
 grow-preserved c = record {
-  same = λ r k. at_pushed (λ (q : RowCalls). items_at q.clauses.items k) [] (is_ok c.push.result) c.grow.rows.items c.push.new.self.items c.no_calls.result
-      (ap (λ (ls : List (SmallVec ℕ)). items_at ls k) c.no_calls.ensures) c.push.ensures.items r
+  same = λ r k. at_pushed (λ (q : RowCalls). calls_in q.clauses.items k) [] (is_ok c.push.result) c.grow.rows.items c.push.new.self.items c.no_calls.result
+      (ap (λ (ls : List Called). calls_in ls k) c.no_calls.ensures) c.push.ensures.items r
       ∙ c.grow.invariant.same r k;
   more = λ r k. through _ _ _ (c.grow.invariant.more r k) (more_pushed (λ (q : RowCalls). clause_room q.clauses.items k) (is_ok c.push.result) c.grow.rows.items c.push.new.self.items c.no_calls.result c.push.ensures.items r);
 }
@@ -21,8 +21,8 @@ returns-in_err-push-clause-succeeds c h =
 pub returns-clause-same : goal.returns-clause-same
 returns-clause-same c r k =
     let inside : c.args.row < length c.grow.rows.items = omega arith in
-    at_unchanged (λ (q : RowCalls). items_at q.clauses.items k) [] c.grow.rows.items c.args.row _ c.index_mut.result.now inside
-    (c.make_clause_room.ensures.same k ∙ ap (λ (q : RowCalls). items_at q.clauses.items k) c.index_mut.ensures.value) r
+    at_unchanged (λ (q : RowCalls). calls_in q.clauses.items k) [] c.grow.rows.items c.args.row _ c.index_mut.result.now inside
+    (c.make_clause_room.ensures.same k ∙ ap (λ (q : RowCalls). calls_in q.clauses.items k) c.index_mut.ensures.value) r
     ∙ c.grow.invariant.same r k
 
 pub returns-clause-ok : goal.returns-clause-ok
