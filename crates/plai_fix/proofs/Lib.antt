@@ -3,6 +3,7 @@ pub mod Steps
 pub mod Working
 pub mod Ends
 pub mod Values
+pub mod Marked
 pub mod Parts
 pub mod Evaluated
 pub mod Keys

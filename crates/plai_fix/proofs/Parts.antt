@@ -1,5 +1,6 @@
 -- Parts of steps: joins of answers, and what is told of a row by its name.
-use Rattle.std.proofs.Common.{◌≡◌, ◌≢◌, ℕ, zero, suc, ◌-◌, ◌≤◌, Bool, not, ◌&&◌, nat_eq, List, [], ◌∷◌, slice_get, Option, Some, None, Result, Ok, Err, IfOk, IfErr, IfSome, IfNone, sym, refl, ap, ◌∙◌, subst, arith}
+use Rattle.std.proofs.Common.{◌≡◌, ◌≢◌, ℕ, zero, suc, ◌-◌, ◌≤◌, Bool, true, false, cond, not, ◌&&◌, nat_eq, eqb-true, List, [], ◌∷◌, slice_get, Option, Some, None, Result, Ok, Err, OnOk, IfOk, IfErr, IfSome, IfNone, sym, refl, ap, ◌∙◌, subst, arith}
+use Rattle.std.proofs.lemmas.Bool.{eq-eqb}
 use Rattle.std.specs.Option.{option_map}
 use Rattle.plai_theory.specs.Domain.{Domain}
 use Rattle.plai_theory.specs.Evaluation.{join_of}
@@ -9,7 +10,7 @@ use Rattle.plai_domain.specs.Plain.{PlainDomain}
 use Rattle.plai_table.specs.Rows.{TableRow, names_of}
 use Rattle.plai_eval.specs.Meaning.{as_domain}
 use Rattle.plai_fix.specs.WorkStates.{KeptRow}
-use Rattle.plai_fix.specs.Changes.{Clears}
+use Rattle.plai_fix.specs.Changes.{Clears, SetsCalls}
 
 pub some_more : {T E : Type 0} (P Q : T → Type 0) (r : Result (Option T) E) → IfOk r (λ n. IfSome n P) → ((v : T) → P v → Q v) → IfOk r (λ n. IfSome n Q)
 some_more P Q (Ok None) h k = tt
@@ -24,6 +25,10 @@ none_more P Q (Err e) h k = tt
 pub if_err : {T E : Type 0} (P Q : E → Type 0) (r : Result T E) → IfErr r P → ((e : E) → P e → Q e) → IfErr r Q
 if_err P Q (Ok x) h k = tt
 if_err P Q (Err e) h k = k e h
+
+pub ok_more : {T E : Type 0} (P Q : Type 0) (r : Result T E) → OnOk r P → (P → Q) → OnOk r Q
+ok_more P Q (Ok x) h k = k h
+ok_more P Q (Err e) h k = tt
 
 join_none : (d : Domain) (o : Option d.Value) → join_of d o None ≡ o
 unfolding join_of
@@ -77,13 +82,32 @@ module _ {W : Type 0} where
   pub one_name : (rows : List (TableRow W)) (n : ℕ) (r : TableRow W) (name : Key W) → slice_get rows n ≡ Some r → slice_get (names_of rows) n ≡ Some name → r.name ≡ name
   one_name rows n r name e f = let s : Some r.name ≡ Some name = sym (name_at rows n r e) ∙ f in cc
 
-pub clears_from : (d : Domain) (rows : List (KeptRow d)) (dirty new : ℕ → ℕ → Bool) (calls : ℕ → ℕ → ℕ → Bool) (n number : ℕ) → 1 ≤ number
-    → ((r c : ℕ) → new r c ≡ (not (nat_eq r n && nat_eq c number) && dirty r c))
-    → Clears d (record { rows = rows; dirty = dirty; calls = calls }) (record { rows = rows; dirty = new; calls = calls }) n (number - 1)
-clears_from d rows dirty new calls n number h cleared =
+pub clears_from : (d : Domain) (rows : List (KeptRow d)) (dirty new : ℕ → ℕ → Bool) (calls called : ℕ → ℕ → ℕ → Bool) (n number : ℕ) → 1 ≤ number
+    → ((r c : ℕ) → new r c ≡ (not (nat_eq r n && nat_eq c number) && dirty r c)) → ((r c q : ℕ) → called r c q ≡ calls r c q)
+    → Clears d (record { rows = rows; dirty = dirty; calls = calls }) (record { rows = rows; dirty = new; calls = called }) n (number - 1)
+clears_from d rows dirty new calls called n number h cleared same =
     let e : suc (number - 1) ≡ number = omega arith in
     record {
       rows = refl;
       dirty = λ a m. subst (λ z. new a m ≡ (not (nat_eq a n && nat_eq m z) && dirty a m)) (sym e) (cleared a m);
-      calls = λ a m j. refl;
+      calls = same;
+    }
+
+same_pair : (p q : Bool) → (p ≡ true → q ≡ true → ⊥) → (p && q) ≡ false
+same_pair true true h = absurd (h refl refl)
+same_pair true false h = refl
+same_pair false q h = refl
+
+pub sets_from : (d : Domain) (rows : List (KeptRow d)) (dirty new : ℕ → ℕ → Bool) (calls called : ℕ → ℕ → ℕ → Bool) (n number : ℕ) (set : ℕ → Bool) → 1 ≤ number
+    → ((r c q : ℕ) → called r c q ≡ cond (nat_eq r n && nat_eq c number) (set q) (calls r c q)) → ((r c : ℕ) → new r c ≡ dirty r c)
+    → SetsCalls d (record { rows = rows; dirty = dirty; calls = calls }) (record { rows = rows; dirty = new; calls = called }) n (number - 1) set
+sets_from d rows dirty new calls called n number set h sets same =
+    let e : suc (number - 1) ≡ number = omega arith in
+    record {
+      rows = refl;
+      dirty = same;
+      own = λ j. ap (λ z. called n z j) e ∙ sets n number j ∙ (let t : nat_eq n n ≡ true = eq-eqb n n refl in let u : nat_eq number number ≡ true = eq-eqb number number refl in rw (t, u) refl);
+      others = λ a m j other.
+          let t : (nat_eq a n && nat_eq m number) ≡ false = same_pair (nat_eq a n) (nat_eq m number) (λ u v. other (eqb-true a n u) (eqb-true m number v ∙ sym e)) in
+          sets a m j ∙ rw t refl;
     }

@@ -1,5 +1,5 @@
 -- What the rows of a table over a domain's own values keep of rows under work.
-use Rattle.std.specs.Prelude.{ℕ, Bool, List, map, Option}
+use Rattle.std.specs.Prelude.{List, map, Option}
 use Rattle.std.specs.Option.{option_map}
 use Rattle.plai_theory.specs.Domain.{Name}
 use Rattle.plai_terms.specs.declared.abs.Abs.{Abs}
@@ -9,6 +9,8 @@ use Rattle.plai_domain.specs.Plain.{PlainDomain}
 use Rattle.plai_eval.specs.Meaning.{as_domain}
 use Rattle.plai_eval.specs.Evaluation.{Source}
 use Rattle.plai_table.specs.Rows.{TableRow}
+use Rattle.plai_arcs.specs.declared.arcs.Arcs.{Arcs}
+use Rattle.plai_arcs.specs.Arcs.{is_dirty, is_call}
 use Rattle.plai_fix.specs.WorkStates.{KeptRow, Keeping, kept_source}
 
 -- the name that a key stands for
@@ -25,6 +27,6 @@ kept_rows value_of p rows = map (kept_row value_of p) rows
 abbrev pub answers_of : (p : PlainDomain) → List (KeptRow (as_domain p)) → Source
 answers_of p kept name = kept_source (as_domain p) kept name.pred name.call
 
--- a table's rows, with the dirty pairs and the calls of its arcs
-abbrev pub keeping : {V : Type 0} → (V → Abs) → (p : PlainDomain) → List (TableRow V) → (ℕ → ℕ → Bool) → (ℕ → ℕ → ℕ → Bool) → Keeping (as_domain p)
-keeping value_of p rows dirty calls = record { rows = kept_rows value_of p rows; dirty = dirty; calls = calls }
+-- the rows of a table, with the dirty pairs and the calls of its arcs
+abbrev pub state_of : {V : Type 0} → (V → Abs) → (p : PlainDomain) → List (TableRow V) → Arcs → Keeping (as_domain p)
+state_of value_of p rows arcs = record { rows = kept_rows value_of p rows; dirty = is_dirty arcs; calls = is_call arcs }

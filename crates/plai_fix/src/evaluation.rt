@@ -1,5 +1,5 @@
 //! Evaluations under the rows of a table.
-ghost use Rattle.std.specs.Prelude.{◌≡◌, ◌≤◌, ◌<◌, ◌+◌, ◌-◌, ℕ, Bool, Some, map, length, slice_get, IfOk, IfErr, OnOk, OnErr};
+ghost use Rattle.std.specs.Prelude.{◌≡◌, ◌≤◌, ◌<◌, ◌+◌, ◌-◌, Some, map, length, slice_get, IfOk, IfErr, OnOk, OnErr};
 ghost use Rattle.std.specs.Option.{option_map};
 ghost use Rattle.plai_domain.specs.declared.work.WorkEntry.TheVariants as entries;
 ghost use Rattle.plai_domain.specs.Conditions.{IsValue};
@@ -9,9 +9,8 @@ ghost use Rattle.plai_clauses.specs.WellFormed.{IsWellFormedClause};
 ghost use Rattle.plai_eval.specs.Answering.{AnswersFit};
 ghost use Rattle.plai_eval.specs.Cost.{cost_of};
 ghost use Rattle.plai_table.specs.Rows.{names_of};
-ghost use Rattle.plai_arcs.specs.Arcs.{is_dirty};
 ghost use Rattle.plai_eval.specs.Meaning.{as_domain};
-ghost use Rattle.plai_fix.specs.Tables.{key_name, kept_rows, answers_of, keeping};
+ghost use Rattle.plai_fix.specs.Tables.{key_name, kept_rows, answers_of, state_of};
 ghost use Rattle.plai_fix.specs.Changes.{Clears};
 ghost use Rattle.plai_fix.specs.Evaluating.{IsEvaluation, TellsOver};
 
@@ -95,9 +94,8 @@ pub fn evaluate_pair<D: Domain, W: Work, L: Ledger>(
     ensures ok { IfOk result (λ e. (name : Key D.Value) → slice_get (names_of table.now.rows) row ≡ Some name
         → IsEvaluation (D.plain domain.now) (kept_rows D.value_of (D.plain domain.now) table.now.rows) clause.now
         (D.value_of name.call) (option_map D.value_of e.answer) (map (key_name D.value_of) e.calls)) }
-    ensures clears { OnOk result ((calls : ℕ → ℕ → ℕ → Bool) → Clears (as_domain (D.plain domain.now))
-        (keeping D.value_of (D.plain domain.now) table.now.rows (is_dirty arcs.old) calls) (keeping D.value_of (D.plain domain.now) table.now.rows (is_dirty arcs.new) calls)
-        row (number - 1)) }
+    ensures clears { OnOk result (Clears (as_domain (D.plain domain.now)) (state_of D.value_of (D.plain domain.now) table.now.rows arcs.old)
+        (state_of D.value_of (D.plain domain.now) table.now.rows arcs.new) row (number - 1)) }
     ensures err { IfErr result (λ fail. (name : Key D.Value) → slice_get (names_of table.now.rows) row ≡ Some name
         → TellsOver (D.plain domain.now) (kept_rows D.value_of (D.plain domain.now) table.now.rows) (key_name D.value_of name) number clause.now fail) }
     ensures noted { OnOk result ((name : Key D.Value) → slice_get (names_of table.now.rows) row ≡ Some name

@@ -3,6 +3,7 @@
 //! what is called, and marks. The functions of laws have empty bodies: each of their clauses is a theorem.
 #![tactic(auto)]
 
+mod calling;
 mod evaluation;
 mod joining;
 mod laws;
@@ -11,6 +12,7 @@ mod marking;
 mod present;
 mod solve_fail;
 
+pub use calling::set_pair_calls;
 pub use evaluation::{evaluate_clause, evaluate_pair};
 pub use joining::growth;
 pub use laws::{end_laws, step_laws, value_laws, wait_laws};

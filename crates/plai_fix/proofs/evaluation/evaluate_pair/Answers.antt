@@ -4,7 +4,7 @@ use Rattle.plai_domain.specs.declared.key.Key.{Key}
 use Rattle.plai_domain.specs.declared.work.WorkEntry.TheVariants as entries
 use Rattle.plai_domain.specs.Names.{name_of}
 use Rattle.plai_domain.specs.Noted.{noted}
-use Rattle.plai_arcs.specs.Arcs.{is_dirty}
+use Rattle.plai_arcs.specs.Arcs.{is_dirty, is_call}
 use Rattle.plai_table.specs.Rows.{names_of}
 use Rattle.plai_eval.specs.Meaning.{as_domain}
 use Rattle.plai_fix.specs.Tables.{key_name, kept_rows}
@@ -39,8 +39,8 @@ returns-clause-ok g c =
 pub returns-clause-clears : goal.returns-clause-clears
 returns-clause-clears g c =
     let p = g.D.Domain.plain c.args.domain.now in
-    λ calls.
-    clears_from (as_domain p) (kept_rows g.D.Domain.value_of p c.args.table.now.rows) (is_dirty c.args.arcs.now) (is_dirty c.clear_dirty.new.self) calls c.args.row c.args.number c.requires.number c.clear_dirty.ensures
+    clears_from (as_domain p) (kept_rows g.D.Domain.value_of p c.args.table.now.rows) (is_dirty c.args.arcs.now) (is_dirty c.clear_dirty.new.self) (is_call c.args.arcs.now) (is_call c.clear_dirty.new.self)
+    c.args.row c.args.number c.requires.number c.clear_dirty.ensures.dirty c.clear_dirty.ensures.calls
 
 pub returns-clause-noted : goal.returns-clause-noted
 returns-clause-noted g c =
