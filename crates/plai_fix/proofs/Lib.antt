@@ -8,3 +8,4 @@ pub mod Parts
 pub mod Evaluated
 pub mod Keys
 pub mod LookedUp
+pub mod Makings

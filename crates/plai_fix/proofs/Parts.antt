@@ -1,7 +1,10 @@
 -- Parts of steps: joins of answers, and what is told of a row by its name.
-use Rattle.std.proofs.Common.{◌≡◌, ◌≢◌, ℕ, zero, suc, ◌-◌, ◌≤◌, Bool, true, false, cond, not, ◌&&◌, nat_eq, eqb-true, List, [], ◌∷◌, slice_get, Option, Some, None, Result, Ok, Err, OnOk, IfOk, IfErr, IfSome, IfNone, sym, refl, ap, ◌∙◌, subst, arith}
+use Rattle.std.proofs.Common.{◌≡◌, ◌≢◌, ℕ, zero, suc, ◌-◌, ◌≤◌, Bool, true, false, cond, not, ◌&&◌, nat_eq, nat_lt, eqb-true, count_by, List, [], ◌∷◌, slice_get, Option, Some, None, Result, Ok, Err, OnOk, IfOk, IfErr, IfSome, IfNone, sym, refl, ap, ◌∙◌, subst, arith}
 use Rattle.std.proofs.lemmas.Bool.{eq-eqb}
 use Rattle.std.specs.Option.{option_map}
+use Rattle.std.specs.List.{list_any}
+use Rattle.plai_arcs.specs.Links.{one_if}
+use Rattle.plai_arcs.proofs.CountLemmas.{any_count}
 use Rattle.plai_theory.specs.Domain.{Domain}
 use Rattle.plai_theory.specs.Evaluation.{join_of}
 use Rattle.plai_terms.specs.declared.abs.Abs.{Abs}
@@ -29,6 +32,18 @@ if_err P Q (Err e) h k = k e h
 pub ok_more : {T E : Type 0} (P Q : Type 0) (r : Result T E) → OnOk r P → (P → Q) → OnOk r Q
 ok_more P Q (Ok x) h k = k h
 ok_more P Q (Err e) h k = tt
+
+pub ok_items : {T E : Type 0} (P Q : T → Type 0) (r : Result T E) → IfOk r P → ((x : T) → P x → Q x) → IfOk r Q
+ok_items P Q (Ok x) h k = k x h
+ok_items P Q (Err e) h k = tt
+
+-- what is counted once is there
+pub called_as : {T : Type 0} (b : Bool) (t : T → Bool) (xs : List T) → count_by t xs ≡ one_if b → b ≡ list_any t xs
+called_as b t xs e = sym (any_count t xs ∙ ap (λ n. nat_lt 0 n) e ∙ at b)
+  where
+    at : (b : Bool) → nat_lt 0 (one_if b) ≡ b
+    at true = refl
+    at false = refl
 
 join_none : (d : Domain) (o : Option d.Value) → join_of d o None ≡ o
 unfolding join_of

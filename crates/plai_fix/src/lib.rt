@@ -12,7 +12,7 @@ mod marking;
 mod present;
 mod solve_fail;
 
-pub use calling::set_pair_calls;
+pub use calling::{callers_of, set_pair_calls};
 pub use evaluation::{evaluate_clause, evaluate_pair};
 pub use joining::growth;
 pub use laws::{end_laws, step_laws, value_laws, wait_laws};

@@ -1,11 +1,10 @@
-use Rattle.std.proofs.Common.{◌≡◌, Some, IfErr, map, slice_get, subst, rules}
+use Rattle.std.proofs.Common.{◌≡◌, IfErr, map, subst, rules}
 use Rattle.std.specs.Option.{option_map}
 use Rattle.plai_domain.specs.declared.key.Key.{Key}
 use Rattle.plai_domain.specs.declared.work.WorkEntry.TheVariants as entries
 use Rattle.plai_domain.specs.Names.{name_of}
 use Rattle.plai_domain.specs.Noted.{noted}
 use Rattle.plai_arcs.specs.Arcs.{is_dirty, is_call}
-use Rattle.plai_table.specs.Rows.{names_of}
 use Rattle.plai_eval.specs.Meaning.{as_domain}
 use Rattle.plai_fix.specs.Tables.{key_name, kept_rows}
 use Rattle.plai_fix.specs.Evaluating.{IsEvaluation, TellsOver}
