@@ -1,0 +1,11 @@
+pub mod Places
+pub mod Steps
+pub mod Working
+pub mod Ends
+pub mod Values
+pub mod Marked
+pub mod Parts
+pub mod Evaluated
+pub mod Keys
+pub mod LookedUp
+pub mod Makings

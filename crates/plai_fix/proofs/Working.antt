@@ -1,0 +1,351 @@
+-- Steps of legal work at a table and its arcs, each noted at the end of a log.
+use Rattle.std.proofs.Common.{◌≡◌, ◌≢◌, ℕ, zero, suc, ◌+◌, ◌<◌, ◌≤◌, Bool, true, false, cond, ◌&&◌, ◌||◌, ◌↔◌, nat_eq, eqb-true, List, [], ◌∷◌, ◌++◌, map, length, Option, Some, None, IsSome, sym, refl, ap, ap₂, ◌∙◌, subst, inl, inr, arith}
+use Rattle.plai_theory.specs.Words.{IsIn, given, item}
+use Rattle.plai_theory.specs.Domain.{Domain, Program, IsLawful}
+use Rattle.plai_theory.specs.Evaluation.{NameOf, name_of, answer_of, calls_of, join_of}
+use Rattle.plai_theory.specs.LegalWork.{WorkRow, Work, LogEntry, Made, Evaluated, Grew, find, present_source, put, mentions, new_row, after_evaluating, after_growing, calls_now, answer_now, next_answer, after, NoneDue, IsDemanded, IsRecorded, live_count, IsLegal, IsLegalLog, after_all}
+use Rattle.plai_theory.specs.Limits.{Limits, IsOverAt, Fits, AllFit}
+use Rattle.plai_theory.proofs.Options.{by_test}
+use Rattle.plai_theory.proofs.Rows.{find_map, find_push}
+use Rattle.plai_theory.proofs.Walk.{after_push, legal_push}
+use Rattle.plai_fix.specs.WorkStates.{clause_at, KeptRow, Keeping, Keeps, IsMet, IsFull, IsNamed}
+use Rattle.plai_fix.specs.Changes.{Clears, SetsCalls, Answers, Makes}
+use Rattle.plai_fix.specs.Logs.{IsLogged, IsWorking, IsEvaluated}
+use Rattle.plai_fix.proofs.Places.{item_map, push_cases, found_at, one_place}
+use Rattle.std.proofs.lemmas.Bool.{eq-eqb, eqb-false}
+use Rattle.plai_fix.proofs.Steps.{row_at, or_cases, cleared, opened, closed, grown, made}
+
+-- live rows, of which a change of rows makes as many
+live_map : (d : Domain) (f : WorkRow d → WorkRow d) → ((r : WorkRow d) → (f r).live ≡ r.live) → (rows : List (WorkRow d)) → live_count d (map f rows) ≡ live_count d rows
+live_map d f keeps [] = refl
+live_map d f keeps (r ∷ rows) = ap₂ (λ (b : Bool) (n : ℕ). cond b 1 0 + n) (keeps r) (live_map d f keeps rows)
+
+live_push : (d : Domain) (rows : List (WorkRow d)) (x : NameOf d) → live_count d (rows ++ new_row d x ∷ []) ≡ live_count d rows + 1
+live_push d [] x = refl
+live_push d (r ∷ rows) x = let k : live_count d (rows ++ new_row d x ∷ []) ≡ live_count d rows + 1 = live_push d rows x in omega arith
+
+fits_push : (d : Domain) (g : Program d) (limits : Limits d) (w : Work d) (es : List (LogEntry d)) (e : LogEntry d) → AllFit d g limits w es → Fits d g limits (after_all d g w es) e → AllFit d g limits w (es ++ e ∷ [])
+fits_push d g limits w [] e fits h = (h, tt)
+fits_push d g limits w (b ∷ es) e fits h = (fits.0, fits_push d g limits (after d g w b) es e fits.1 h)
+
+-- a row of a changed list
+at_map : {A : Type 0} {P : Type 0} (f : A → A) (xs : List A) (n : ℕ) (x : A) → item (map f xs) n ≡ Some x → ((y : A) → item xs n ≡ Some y → f y ≡ x → P) → P
+at_map {A} {P} f xs n x e h = at_item (item xs n) refl (sym (item_map f xs n) ∙ e)
+  where
+    at_item : (o : Option A) → item xs n ≡ o → given None (λ y. Some (f y)) o ≡ Some x → P
+    at_item None k u = cc
+    at_item (Some y) k u = h y k cc
+
+some_pair : {n i a j : ℕ} → ◌≡◌ {A = Option (ℕ × ℕ)} (Some (n, i)) (Some (a, j)) → (n ≡ a) × (i ≡ j)
+some_pair {n = n} {i = i} e = (ap (fst n) e, ap (snd i) e)
+  where
+    fst : ℕ → Option (ℕ × ℕ) → ℕ
+    fst z None = z
+    fst z (Some p) = p.0
+
+    snd : ℕ → Option (ℕ × ℕ) → ℕ
+    snd z None = z
+    snd z (Some p) = p.1
+
+module _ (d : Domain) (g : Program d) (laws : IsLawful d g) where
+  -- a change of rows keeps what is met, where pairs that are not dirty were not dirty and call the same
+  module _ (f : WorkRow d → WorkRow d) (keeps : (r : WorkRow d) → (f r).name ≡ r.name) (lives : (r : WorkRow d) → (f r).live ≡ r.live) where
+    pub found_map : (rows : List (WorkRow d)) (y : NameOf d) (q : WorkRow d) → find d rows y ≡ Some q → find d (map f rows) y ≡ Some (f q)
+    found_map rows y q e = find_map d g laws f keeps rows y ∙ ap (given None (λ r. Some (f r))) e
+
+    found_back : (rows : List (WorkRow d)) (y : NameOf d) (q : WorkRow d) → find d (map f rows) y ≡ Some q → (z : WorkRow d) × (find d rows y ≡ Some z) × (f z ≡ q)
+    found_back rows y q e = at_found (find d rows y) refl (sym (find_map d g laws f keeps rows y) ∙ e)
+      where
+        at_found : (o : Option (WorkRow d)) → find d rows y ≡ o → given None (λ r. Some (f r)) o ≡ Some q → (z : WorkRow d) × (find d rows y ≡ Some z) × (f z ≡ q)
+        at_found None k u = cc
+        at_found (Some z) k u = (z, k, cc)
+
+    pub met_map : (rows : List (WorkRow d)) (waiting next : Option (ℕ × ℕ)) (unmet new : ℕ → ℕ → Bool) → IsMet d g waiting unmet rows
+        → ((n : ℕ) (r : WorkRow d) → item rows n ≡ Some r → (i : ℕ) → (f r).dirty i ≡ false → (next ≡ Some (n, i) → ⊥) → new n (suc i) ≡ false
+        → (r.dirty i ≡ false) × ((f r).calls i ≡ r.calls i) × (waiting ≡ Some (n, i) → ⊥) × (unmet n (suc i) ≡ false))
+        → IsMet d g next new (map f rows)
+    met_map rows waiting next unmet new met h =
+        record {
+          met = λ n r e i c s clean shut free y inside.
+              at_map f rows n r e (λ q k same.
+              let s' : item (g.clauses q.name.pred) i ≡ Some c = subst (λ (x : NameOf d). item (g.clauses x.pred) i ≡ Some c) (keeps q) (subst (λ (z : WorkRow d). item (g.clauses z.name.pred) i ≡ Some c) (sym same) s) in
+              let (was, calls, unwaited, unmarked) = h n q k i (subst (λ (z : WorkRow d). z.dirty i ≡ false) (sym same) clean) shut free in
+              let (z, there, live) = met.met n q k i c s' was unwaited unmarked y (subst (IsIn y) calls (subst (λ (w : WorkRow d). IsIn y (w.calls i)) (sym same) inside)) in
+              (f z, found_map rows y z there, λ l. lives z ∙ live (sym (lives q) ∙ ap (λ (w : WorkRow d). w.live) same ∙ l)));
+        }
+
+    pub full_map : (rows : List (WorkRow d)) (limit : ℕ) (unmet new : ℕ → ℕ → Bool) → IsFull d g limit unmet rows
+        → ((n m : ℕ) → new n m ≡ true → unmet n m ≡ true)
+        → ((n : ℕ) (r : WorkRow d) → item rows n ≡ Some r → (i : ℕ) → (f r).dirty i ≡ false → new n (suc i) ≡ true → (r.dirty i ≡ false) × ((f r).calls i ≡ r.calls i))
+        → IsFull d g limit new (map f rows)
+    full_map rows limit unmet new full fewer h =
+        record {
+          full = λ n m e. let k : limit ≤ live_count d rows = full.full n m (fewer n m e) in let s : live_count d (map f rows) ≡ live_count d rows = live_map d f lives rows in omega arith;
+          pairs = λ n m e.
+              let (q, t, u) = full.pairs n m (fewer n m e) in
+              (f q, item_map f rows n ∙ ap (given None (λ z. Some (f z))) t, subst (λ (x : NameOf d). IsSome (clause_at d g x.pred m)) (sym (keeps q)) u);
+          missing = λ n r e i clean marked.
+              at_map f rows n r e (λ q k same.
+              let (was, calls) = h n q k i (subst (λ (z : WorkRow d). z.dirty i ≡ false) (sym same) clean) marked in
+              let (y, inside, none) = full.missing n q k i was (fewer n (suc i) marked) in (
+                y,
+                subst (λ (w : WorkRow d). IsIn y (w.calls i)) same (subst (IsIn y) (sym calls) inside),
+                λ z t. let (w, u, v) = found_back rows y z t in sym (ap (λ (a : WorkRow d). a.live) v) ∙ lives w ∙ none w u,
+              ));
+        }
+
+module _ (d : Domain) (g : Program d) (laws : IsLawful d g) (limits : Limits d) (limit : ℕ) (start : Work d) (log : List (LogEntry d)) where
+  abbrev rows : List (WorkRow d)
+  rows = (after_all d g start log).rows
+
+  -- Theorem: a dirty pair of a row is evaluated.
+  module _ (k new : Keeping d) (unmet left : ℕ → ℕ → Bool) (working : IsWorking d g limits limit start log k None None unmet) (n i : ℕ) (r : WorkRow d) (at : item rows n ≡ Some r)
+      (c : d.Clause) (is_clause : item (g.clauses r.name.pred) i ≡ Some c) (is_dirty : k.dirty n (suc i) ≡ true)
+      (within : IsOverAt d limits (present_source d rows) c r.name.call → ⊥) (clears : Clears d k new n i)
+      (others : (a m : ℕ) → (a ≡ n → m ≡ suc i → ⊥) → left a m ≡ unmet a m) (own : left n (suc i) ≡ false) where
+    abbrev evaluate : WorkRow d → WorkRow d
+    evaluate = after_evaluating d r.name i (calls_now d g rows r.name i)
+
+    abbrev step : LogEntry d
+    step = Evaluated r.name i
+
+    -- a pair that is clean behind the step, other than this one
+    was_clean : (a : ℕ) (q : WorkRow d) → item rows a ≡ Some q → (j : ℕ) → (evaluate q).dirty j ≡ false → (a ≡ n → suc j ≡ suc i → ⊥) → (q.dirty j ≡ false) × ((evaluate q).calls j ≡ q.calls j)
+    was_clean a q f j e other =
+        by_test (d.same_name q.name r.name)
+        (λ t. by_test (nat_eq i j)
+        (λ u. absurd (other (one_place d g laws rows working.logged.keeps.own a n q r f at (laws.same_true q.name r.name t)) (ap suc (sym (eqb-true i j u)))))
+        (λ u. (rw (t, u) at e, rw (t, u) refl)))
+        (λ t. (rw t at e, rw t refl))
+
+    not_own : (a j : ℕ) → left a (suc j) ≡ true → a ≡ n → suc j ≡ suc i → ⊥
+    not_own a j e u v = let l : false ≡ true = sym own ∙ ap₂ left (sym u) (sym v) ∙ e in cc
+
+    same : after_all d g start (log ++ step ∷ []) ≡ after d g (after_all d g start log) step
+    same = after_push d g limit start log step
+
+    pub evaluated : IsEvaluated d g limits limit start (log ++ step ∷ []) new (Some (n, i)) n i r.name left
+    evaluated =
+        record {
+          logged =
+              record {
+                legal = legal_push d g limit start log step working.logged.legal legal;
+                fits = fits_push d g limits start log step working.logged.fits
+                    (λ b s. let e : Some c ≡ Some b = sym is_clause ∙ s in let f : c ≡ b = cc in subst (λ (z : d.Clause). IsOverAt d limits (present_source d rows) z r.name.call → ⊥) f within);
+                keeps = subst (λ (w : Work d). Keeps d g new (Some (n, i)) w.rows) (sym same) (cleared d g laws k new rows working.logged.keeps n i r at (calls_now d g rows r.name i) clears);
+                few = subst (λ (w : Work d). live_count d w.rows ≤ limit) (sym same) (let l : live_count d (map evaluate rows) ≡ live_count d rows = live_map d evaluate (λ z. refl) rows in let f = working.logged.few in omega arith);
+                live = λ a q e. at_map evaluate rows a q (sym (ap (λ (w : Work d). item w.rows a) same) ∙ e) (λ z f s. sym (ap (λ (b : WorkRow d). b.live) s) ∙ working.logged.live a z f);
+              };
+          last = ap (λ (w : Work d). w.last) same;
+          met = subst (λ (w : Work d). IsMet d g (Some (n, i)) left w.rows) (sym same)
+              (met_map d g laws evaluate (λ z. refl) (λ z. refl) rows None (Some (n, i)) unmet left working.met
+              (λ a q f j clean shut free.
+              let other : a ≡ n → suc j ≡ suc i → ⊥ = λ u v. shut (ap₂ (λ (x z : ℕ). Some (x, z)) (sym u) (let b : i ≡ j = omega arith in b)) in
+              let (x, y) = was_clean a q f j clean other in (x, y, none_is (a, j), sym (others a (suc j) other) ∙ free)));
+          full = subst (λ (w : Work d). IsFull d g limit left w.rows) (sym same)
+              (full_map d g laws evaluate (λ z. refl) (λ z. refl) rows limit unmet left working.full
+              fewer (λ a q f j clean marked. was_clean a q f j clean (not_own a j marked)));
+        }
+      where
+        none_is : (p : ℕ × ℕ) → None ≡ Some p → ⊥
+        none_is p e = cc
+
+        legal : IsLegal d g limit (after_all d g start log) step
+        legal =
+            let (kept, e, h) = row_at d g laws k None rows working.logged.keeps n r at in (
+              working.none_due,
+              (r, found_at d g laws rows working.logged.keeps.own n r at, working.logged.live n r at, sym (h.dirty i c is_clause) ∙ is_dirty),
+              (c, is_clause),
+            )
+
+        fewer : (a m : ℕ) → left a m ≡ true → unmet a m ≡ true
+        fewer a m e =
+            by_test (nat_eq a n)
+            (λ u. by_test (nat_eq m (suc i))
+            (λ v. let l : false ≡ true = sym own ∙ ap₂ left (sym (eqb-true a n u)) (sym (eqb-true m (suc i) v)) ∙ e in cc)
+            (λ v. sym (others a m (λ x y. eqb-false m (suc i) v y)) ∙ e))
+            (λ u. sym (others a m (λ x y. eqb-false a n u x)) ∙ e)
+
+  -- where the row's answer is the join already, nothing is due
+  pub nothing_due : (k : Keeping d) (open_pair : Option (ℕ × ℕ)) (n i : ℕ) (x : NameOf d) (unmet : ℕ → ℕ → Bool) → IsEvaluated d g limits limit start log k open_pair n i x unmet
+      → next_answer d g rows x i ≡ present_source d rows x.pred x.call → IsWorking d g limits limit start log k open_pair (Some (n, i)) unmet
+  nothing_due k open_pair n i x unmet done same =
+      record {
+        logged = done.logged;
+        none_due = λ y j e. let p : Some (x, i) ≡ Some (y, j) = sym done.last ∙ e in at_pair y j p;
+        met = done.met;
+        full = done.full;
+      }
+    where
+      at_pair : (y : NameOf d) (j : ℕ) → ◌≡◌ {A = Option (NameOf d × ℕ)} (Some (x, i)) (Some (y, j)) → next_answer d g rows y j ≡ present_source d rows y.pred y.call
+      at_pair y j p =
+          let u : x ≡ y = ap name p in
+          let v : i ≡ j = ap number p in
+          subst (λ (z : NameOf d). next_answer d g rows z j ≡ present_source d rows z.pred z.call) u (subst (λ m. next_answer d g rows x m ≡ present_source d rows x.pred x.call) v same)
+        where
+          name : Option (NameOf d × ℕ) → NameOf d
+          name None = x
+          name (Some q) = q.0
+
+          number : Option (NameOf d × ℕ) → ℕ
+          number None = i
+          number (Some q) = q.1
+
+  -- Theorem: the growth that is due is done.
+  module _ (k new : Keeping d) (n i : ℕ) (r : WorkRow d) (unmet : ℕ → ℕ → Bool) (done : IsEvaluated d g limits limit start log k None n i r.name unmet) (at : item rows n ≡ Some r)
+      (a : Option d.Value) (is : a ≡ next_answer d g rows r.name i) (other : a ≢ present_source d rows r.name.pred r.name.call) (answers : Answers d k new n a) where
+    abbrev growth : WorkRow d → WorkRow d
+    growth = after_growing d r.name a
+
+    abbrev growing : LogEntry d
+    growing = Grew r.name a
+
+    same_grown : after_all d g start (log ++ growing ∷ []) ≡ after d g (after_all d g start log) growing
+    same_grown = after_push d g limit start log growing
+
+    still_clean : (q : WorkRow d) (j : ℕ) → (growth q).dirty j ≡ false → q.dirty j ≡ false
+    still_clean q j e = by_test (mentions d r.name (q.calls j)) (λ t. let l : true ≡ false = rw t at e in cc) (λ t. rw t at e)
+
+    pub grew : IsWorking d g limits limit start (log ++ growing ∷ []) new None (Some (n, i)) unmet
+    grew =
+        record {
+          logged =
+              record {
+                legal = legal_push d g limit start log growing done.logged.legal (i, done.last, is, other);
+                fits = fits_push d g limits start log growing done.logged.fits tt;
+                keeps = subst (λ (w : Work d). Keeps d g new None w.rows) (sym same_grown) (grown d g laws k new rows done.logged.keeps n r at a answers);
+                few = subst (λ (w : Work d). live_count d w.rows ≤ limit) (sym same_grown) (let l : live_count d (map growth rows) ≡ live_count d rows = live_map d growth (λ z. refl) rows in let f = done.logged.few in omega arith);
+                live = λ b q e. at_map growth rows b q (sym (ap (λ (w : Work d). item w.rows b) same_grown) ∙ e) (λ z f s. sym (ap (λ (y : WorkRow d). y.live) s) ∙ done.logged.live b z f);
+              };
+          none_due = λ y j e. let l : None ≡ Some (y, j) = sym (ap (λ (w : Work d). w.last) same_grown) ∙ e in cc;
+          met = subst (λ (w : Work d). IsMet d g (Some (n, i)) unmet w.rows) (sym same_grown)
+              (met_map d g laws growth (λ z. refl) (λ z. refl) rows (Some (n, i)) (Some (n, i)) unmet unmet done.met
+              (λ b q f j clean shut free. (still_clean q j clean, refl, shut, free)));
+          full = subst (λ (w : Work d). IsFull d g limit unmet w.rows) (sym same_grown)
+              (full_map d g laws growth (λ z. refl) (λ z. refl) rows limit unmet unmet done.full (λ b m e. e) (λ b q f j clean marked. (still_clean q j clean, refl)));
+        }
+
+  -- Theorem: a row is made for a name that is demanded and has none.
+  module _ (k new : Keeping d) (open_pair waiting : Option (ℕ × ℕ)) (unmet : ℕ → ℕ → Bool) (working : IsWorking d g limits limit start log k open_pair waiting unmet)
+      (waits : (p : ℕ × ℕ) → waiting ≡ Some p → open_pair ≡ Some p) (x : NameOf d) (demanded : IsDemanded d g rows x) (absent : find d rows x ≡ None) (room : live_count d rows < limit) (makes : Makes d g k new x) where
+    abbrev making : LogEntry d
+    making = Made x
+
+    same_made : after_all d g start (log ++ making ∷ []) ≡ after d g (after_all d g start log) making
+    same_made = after_push d g limit start log making
+
+    unmarked : (a m : ℕ) → unmet a m ≡ false
+    unmarked a m = by_test (unmet a m) (λ t. let f = working.full.full a m t in absurd (omega arith)) (λ t. t)
+
+    uncalled : (a : ℕ) (q : WorkRow d) → item rows a ≡ Some q → (j : ℕ) (c : d.Clause) → item (g.clauses q.name.pred) j ≡ Some c → q.dirty j ≡ false
+        → (open_pair ≡ Some (a, j) → ⊥) → IsIn x (q.calls j) → ⊥
+    uncalled a q f j c s clean shut inside =
+        let (z, there, live) = working.met.met a q f j c s clean (λ e. shut (waits (a, j) e)) (unmarked a (suc j)) x inside in
+        let l : None ≡ Some z = sym absent ∙ there in cc
+
+    still_found : (y : NameOf d) (q : WorkRow d) → find d rows y ≡ Some q → find d (rows ++ new_row d x ∷ []) y ≡ Some q
+    still_found y q e = find_push d g laws rows (new_row d x) y ∙ ap (given (cond (d.same_name x y) (Some (new_row d x)) None) Some) e
+
+    pub makes_row : IsWorking d g limits limit start (log ++ making ∷ []) new open_pair waiting unmet
+    makes_row =
+        record {
+          logged =
+              record {
+                legal = legal_push d g limit start log making working.logged.legal (working.none_due, demanded, absent, room);
+                fits = fits_push d g limits start log making working.logged.fits tt;
+                keeps = subst (λ (w : Work d). Keeps d g new open_pair w.rows) (sym same_made) (made d g laws k new rows open_pair working.logged.keeps x absent uncalled makes);
+                few = subst (λ (w : Work d). live_count d w.rows ≤ limit) (sym same_made) (let l : live_count d (rows ++ new_row d x ∷ []) ≡ live_count d rows + 1 = live_push d rows x in omega arith);
+                live = λ a q e. push_cases rows (new_row d x) q a (sym (ap (λ (w : Work d). item w.rows a) same_made) ∙ e) (working.logged.live a q) (λ f s. sym (ap (λ (y : WorkRow d). y.live) s));
+              };
+          none_due = λ y j e. let l : None ≡ Some (y, j) = sym (ap (λ (w : Work d). w.last) same_made) ∙ e in cc;
+          met = subst (λ (w : Work d). IsMet d g waiting unmet w.rows) (sym same_made)
+              record {
+                met = λ a q e j c s clean shut free y inside.
+                    push_cases rows (new_row d x) q a e
+                    (λ f. let (z, there, live) = working.met.met a q f j c s clean shut free y inside in (z, still_found y z there, live))
+                    (λ f same. let l : true ≡ false = ap (λ (w : WorkRow d). w.dirty j) same ∙ clean in cc);
+              };
+          full = subst (λ (w : Work d). IsFull d g limit unmet w.rows) (sym same_made)
+              record {
+                full = λ a m e. let l : true ≡ false = sym e ∙ unmarked a m in cc;
+                pairs = λ a m e. let l : true ≡ false = sym e ∙ unmarked a m in cc;
+                missing = λ a q e j clean marked. let l : true ≡ false = sym marked ∙ unmarked a (suc j) in cc;
+              };
+        }
+
+  -- Theorem: the calls of the open pair are set.
+  pub sets : (k new : Keeping d) (n i : ℕ) → IsLogged d g limits limit start log k (Some (n, i)) → (r : WorkRow d) → item rows n ≡ Some r → (c : d.Clause) → item (g.clauses r.name.pred) i ≡ Some c
+      → (called : ℕ → Bool) → SetsCalls d k new n i called → ((j : ℕ) → called j ≡ true → IsSome (item k.rows j))
+      → ((j : ℕ) (y : NameOf d) → IsNamed d k.rows j y → (called j ≡ true) ↔ IsIn y (r.calls i)) → IsLogged d g limits limit start log new None
+  sets k new n i logged r at c s called set inside right =
+      record {
+        legal = logged.legal;
+        fits = logged.fits;
+        keeps = closed d g laws k new rows n i logged.keeps r at c s called set inside right;
+        few = logged.few;
+        live = logged.live;
+      }
+
+  pub opens : (k : Keeping d) (open_pair : Option (ℕ × ℕ)) → IsLogged d g limits limit start log k None → IsLogged d g limits limit start log k open_pair
+  opens k open_pair logged =
+      record { legal = logged.legal; fits = logged.fits; keeps = opened d g laws k rows logged.keeps open_pair; few = logged.few; live = logged.live }
+
+module _ (d : Domain) (g : Program d) (laws : IsLawful d g) where
+  -- A pair that waited has its rows, all live.
+  pub waits_no_more : (rows : List (WorkRow d)) (n i : ℕ) (unmet : ℕ → ℕ → Bool) → IsMet d g (Some (n, i)) unmet rows → (r : WorkRow d) → item rows n ≡ Some r
+      → ((y : NameOf d) → IsIn y (r.calls i) → (q : WorkRow d) × (find d rows y ≡ Some q) × (q.live ≡ true)) → IsMet d g None unmet rows
+  waits_no_more rows n i unmet met r at all =
+      record {
+        met = λ a q e j c s clean shut free y inside.
+            by_test (nat_eq a n && nat_eq j i)
+            (λ t.
+            let (u, v) = both (nat_eq a n) (nat_eq j i) t in
+            let there : Some q ≡ Some r = sym e ∙ ap (item rows) (eqb-true a n u) ∙ at in
+            let same : q ≡ r = cc in
+            let (z, f, l) = all y (subst (IsIn y) (ap₂ (λ (w : WorkRow d) (m : ℕ). w.calls m) same (eqb-true j i v)) inside) in
+            (z, f, λ o. l))
+            (λ t. met.met a q e j c s clean (λ p. let (x, z) = some_pair p in let u : (nat_eq a n && nat_eq j i) ≡ true = rw (eq-eqb a n (sym x), eq-eqb j i (sym z)) refl in let l : true ≡ false = sym u ∙ t in cc) free y inside);
+      }
+    where
+      both : (p q : Bool) → (p && q) ≡ true → (p ≡ true) × (q ≡ true)
+      both true q e = (refl, e)
+      both false q e = cc
+
+  -- Where the limit is met and a name that it called is no live row, the pair that waited is marked as unmet.
+  pub waits_for_ever : (limit : ℕ) (rows : List (WorkRow d)) (n i : ℕ) (unmet marked : ℕ → ℕ → Bool) → IsMet d g (Some (n, i)) unmet rows → IsFull d g limit unmet rows → ((a m : ℕ) → marked a m ≡ ((nat_eq a n && nat_eq m (suc i)) || unmet a m))
+      → (r : WorkRow d) → item rows n ≡ Some r → IsSome (clause_at d g r.name.pred (suc i)) → limit ≤ live_count d rows → (y : NameOf d) → IsIn y (r.calls i) → ((q : WorkRow d) → find d rows y ≡ Some q → q.live ≡ false)
+      → IsMet d g None marked rows × IsFull d g limit marked rows
+  waits_for_ever limit rows n i unmet marked met full marks r at real no_room y inside dead = (
+    record {
+      met = λ a q e j c s clean shut free.
+          let (x, z) = neither (nat_eq a n && nat_eq (suc j) (suc i)) (unmet a (suc j)) (sym (marks a (suc j)) ∙ free) in
+          met.met a q e j c s clean (λ p. let (v, w) = some_pair p in
+          let u : (nat_eq a n && nat_eq (suc j) (suc i)) ≡ true = rw (eq-eqb a n (sym v), eq-eqb (suc j) (suc i) (ap suc (sym w))) refl in let l : true ≡ false = sym u ∙ x in cc) z;
+    },
+    record {
+      full = λ a m e. no_room;
+      pairs = λ a m e.
+          or_cases (nat_eq a n && nat_eq m (suc i)) (unmet a m) (sym (marks a m) ∙ e)
+          (λ t. let (u, v) = both (nat_eq a n) (nat_eq m (suc i)) t in
+          (r, ap (item rows) (eqb-true a n u) ∙ at, subst (λ z. IsSome (clause_at d g r.name.pred z)) (sym (eqb-true m (suc i) v)) real))
+          (full.pairs a m);
+      missing = λ a q e j clean mark.
+          or_cases (nat_eq a n && nat_eq (suc j) (suc i)) (unmet a (suc j)) (sym (marks a (suc j)) ∙ mark)
+          (λ t.
+          let (u, v) = both (nat_eq a n) (nat_eq (suc j) (suc i)) t in
+          let there : Some q ≡ Some r = sym e ∙ ap (item rows) (eqb-true a n u) ∙ at in
+          let same : q ≡ r = cc in
+          let w : suc j ≡ suc i = eqb-true (suc j) (suc i) v in
+          let x : j ≡ i = omega arith in
+          (y, subst (IsIn y) (sym (ap₂ (λ (w : WorkRow d) (m : ℕ). w.calls m) same x)) inside, dead))
+          (full.missing a q e j clean);
+    },
+  )
+    where
+      both : (p q : Bool) → (p && q) ≡ true → (p ≡ true) × (q ≡ true)
+      both true q e = (refl, e)
+      both false q e = cc
+
+      neither : (p q : Bool) → (p || q) ≡ false → (p ≡ false) × (q ≡ false)
+      neither true q e = cc
+      neither false q e = (refl, e)

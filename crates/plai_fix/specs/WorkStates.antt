@@ -1,0 +1,74 @@
+-- What a table and its arcs keep of a state of work (Hermenegildo, Puebla, Marriott and Stuckey 2000). Rows are numbered
+-- from 0, as in the table, and clauses from 1.
+use Rattle.std.specs.Prelude.{◌≡◌, ◌↔◌, ◌≤◌, ℕ, zero, suc, Bool, true, false, cond, List, [], ◌∷◌, Option, Some, None, IsSome}
+use Rattle.plai_theory.specs.Words.{IsIn, HasSome, item}
+use Rattle.plai_theory.specs.Domain.{Domain, Program}
+use Rattle.plai_theory.specs.Evaluation.{NameOf, Source, name_of}
+use Rattle.plai_theory.specs.LegalWork.{WorkRow, find, live_count}
+use Rattle.plai_theory.specs.Count.{HaveOwnNames}
+
+-- what a table keeps of a row
+pub record KeptRow (d : Domain) : Type 0 where
+  pub name : NameOf d
+  pub answer : Option d.Value
+  pub live : Bool
+
+-- the rows of a table, the dirty pairs of a row and a clause, and the rows that each pair calls
+pub record Keeping (d : Domain) : Type 0 where
+  pub rows : List (KeptRow d)
+  pub dirty : ℕ → ℕ → Bool
+  pub calls : ℕ → ℕ → ℕ → Bool
+
+-- the answers of kept rows, none where there is no such row
+abbrev pub kept_source : (d : Domain) → List (KeptRow d) → Source d
+kept_source d [] p v = None
+kept_source d (k ∷ kept) p v = cond (d.same_name k.name (name_of d p v)) k.answer (kept_source d kept p v)
+
+-- the clause of this number, from 1, of a predicate
+abbrev pub clause_at : (d : Domain) → Program d → d.Pred → ℕ → Option d.Clause
+clause_at d g p zero = None
+clause_at d g p (suc i) = item (g.clauses p) i
+
+-- the row of this number has that name
+abbrev pub IsNamed : (d : Domain) → List (KeptRow d) → ℕ → NameOf d → Type 0
+IsNamed d kept j x = HasSome (λ (k : KeptRow d). k.name ≡ x) (item kept j)
+
+-- A kept row, of number n, and its arcs are those of a row under work. Pairs that are not dirty call the rows whose names
+-- the row's last evaluation called, but for the open pair, if there is one, whose calls are not all set yet.
+pub record KeepsRow (d : Domain) (g : Program d) (k : Keeping d) (open_pair : Option (ℕ × ℕ)) (n : ℕ) (kept : KeptRow d) (row : WorkRow d) : Type 0 where
+  pub name : kept.name ≡ row.name
+  pub answer : kept.answer ≡ row.answer
+  pub live : kept.live ≡ row.live
+  pub dirty : (i : ℕ) (c : d.Clause) → item (g.clauses row.name.pred) i ≡ Some c → k.dirty n (suc i) ≡ row.dirty i
+  pub calls : (i : ℕ) (c : d.Clause) → item (g.clauses row.name.pred) i ≡ Some c → row.dirty i ≡ false
+      → (open_pair ≡ Some (n, i) → ⊥) → (j : ℕ) (y : NameOf d) → IsNamed d k.rows j y → (k.calls n (suc i) j ≡ true) ↔ IsIn y (row.calls i)
+  pub dirty_clauses : (m : ℕ) → k.dirty n m ≡ true → IsSome (clause_at d g row.name.pred m)
+  pub calls_clauses : (m j : ℕ) → k.calls n m j ≡ true → IsSome (clause_at d g row.name.pred m)
+
+-- both are absent, or both are there and related
+abbrev pub AtBoth : {A B : Type 0} → (A → B → Type 0) → Option A → Option B → Type 0
+AtBoth R None None = Unit {0}
+AtBoth R None (Some b) = ⊥
+AtBoth R (Some a) None = ⊥
+AtBoth R (Some a) (Some b) = R a b
+
+-- A table and its arcs keep these rows under work, in their order; the arcs name rows of the table alone.
+pub record Keeps (d : Domain) (g : Program d) (k : Keeping d) (open_pair : Option (ℕ × ℕ)) (rows : List (WorkRow d)) : Type 0 where
+  pub own : HaveOwnNames d rows
+  pub each : (n : ℕ) → AtBoth (KeepsRow d g k open_pair n) (item k.rows n) (item rows n)
+  pub dirty_rows : (n m : ℕ) → k.dirty n m ≡ true → IsSome (item k.rows n)
+  pub calls_rows : (n m j : ℕ) → k.calls n m j ≡ true → IsSome (item k.rows n) × IsSome (item k.rows j)
+
+-- Each name that a pair that is not dirty called has a row, which is live where the pair's is. Excepted are the pair that
+-- waits for its rows, if there is one, and the pairs that are marked as unmet.
+pub record IsMet (d : Domain) (g : Program d) (waiting : Option (ℕ × ℕ)) (unmet : ℕ → ℕ → Bool) (rows : List (WorkRow d)) : Type 0 where
+  pub met : (n : ℕ) (r : WorkRow d) → item rows n ≡ Some r → (i : ℕ) (c : d.Clause) → item (g.clauses r.name.pred) i ≡ Some c
+      → r.dirty i ≡ false → (waiting ≡ Some (n, i) → ⊥) → unmet n (suc i) ≡ false → (y : NameOf d) → IsIn y (r.calls i)
+      → (q : WorkRow d) × (find d rows y ≡ Some q) × (r.live ≡ true → q.live ≡ true)
+
+-- A pair is marked as unmet only where the limit of live rows is met, and then some name that it called is no live row.
+pub record IsFull (d : Domain) (g : Program d) (limit : ℕ) (unmet : ℕ → ℕ → Bool) (rows : List (WorkRow d)) : Type 0 where
+  pub full : (n m : ℕ) → unmet n m ≡ true → limit ≤ live_count d rows
+  pub pairs : (n m : ℕ) → unmet n m ≡ true → (r : WorkRow d) × (item rows n ≡ Some r) × IsSome (clause_at d g r.name.pred m)
+  pub missing : (n : ℕ) (r : WorkRow d) → item rows n ≡ Some r → (i : ℕ) → r.dirty i ≡ false → unmet n (suc i) ≡ true
+      → (y : NameOf d) × IsIn y (r.calls i) × ((q : WorkRow d) → find d rows y ≡ Some q → q.live ≡ false)

@@ -1,0 +1,21 @@
+//! Legal work on a table and its arcs (Hermenegildo, Puebla, Marriott and Stuckey 2000): what they keep of a state of work,
+//! what each step changes of them, and the parts of a step: evaluations under the rows of a table, growths, look-ups of
+//! what is called, and marks. The functions of laws have empty bodies: each of their clauses is a theorem.
+#![tactic(auto)]
+
+mod calling;
+mod evaluation;
+mod joining;
+mod laws;
+mod looking;
+mod marking;
+mod present;
+mod solve_fail;
+
+pub use calling::{callers_of, set_pair_calls};
+pub use evaluation::{evaluate_clause, evaluate_pair};
+pub use joining::growth;
+pub use laws::{end_laws, step_laws, value_laws, wait_laws};
+pub use looking::{look_up, look_up_all};
+pub use marking::{mark_clauses, mark_pairs};
+pub use solve_fail::SolveFail;
