@@ -1,0 +1,117 @@
+#!/usr/bin/env bash
+# Measures analyses under terms cut at a depth, at the depths 1, 3 and 8: 10 and 20 copies of programs over lists; a tokenizer with
+# 50 and 200 atoms, each of which begins with two characters, and whose states are atoms; a chain of predicates that build a term
+# of the depth and more; and terms nested to the reader's limit in clause heads and bodies, 10 and 40 of them. Prints the status,
+# the rows, the bytes printed and the time, and how many times it grew from the size before. PLAI names another program than ./plai.
+set -eu
+here=$(cd "$(dirname "$0")/.." && pwd)
+plai=${PLAI:-$here/plai}
+folder=$(mktemp -d)
+trap 'rm -rf "$folder"' EXIT
+
+python3 - "$folder" <<'PYTHON'
+import sys
+
+folder = sys.argv[1]
+
+
+def write(name, *lines):
+    with open(f"{folder}/{name}.pl", "w") as out:
+        out.write("\n".join([":- module(m, []).", *lines]) + "\n")
+
+
+LISTS = """
+app@([], L, L).
+app@([H|T], L, [H|R]) :- app@(T, L, R).
+rev@([], A, A).
+rev@([H|T], A, R) :- rev@(T, [H|A], R).
+select@(X, [X|T], T).
+select@(X, [H|T], [H|R]) :- select@(X, T, R).
+perm@([], []).
+perm@(L, [H|T]) :- select@(H, L, R), perm@(R, T).
+zip@([], [], []).
+zip@([X|Xs], [Y|Ys], [X-Y|R]) :- zip@(Xs, Ys, R).
+len@([], 0).
+len@([_|T], N) :- len@(T, M), N is M + 1.
+all@(X, Y, Z) :- rev@(X, [], A), perm@(A, B), zip@(B, Y, D), app@(D, Z, E), len@(E, N), next@([N, end], Y, Z).
+"""
+
+
+def lists(count):
+    """So many copies of list programs, each of which calls the next one with a list of two."""
+    text = [LISTS.replace("next@", f"all{(i + 1) % count}").replace("@", str(i)) for i in range(count)]
+    write(f"lists_{count}", ":- entry all0(X, Y, Z).", *text)
+
+
+def tokenizer(count):
+    """A tokenizer over lists of characters: so many atoms, each of which begins with two characters and leads to a state."""
+    rules = []
+    for i in range(count):
+        first, second = f"c{i // 15}", f"d{i % 15}"
+        rules.append(f"step(word, [{first}, {second}|T], t(atom{i}, at(N, P)), s{i % 7}, T, N, P).")
+        rules.append(f"kind(atom{i}, kind{i % 10}).")
+    states = [f"step(s{i}, [blank|T], t(skip, at(N, N)), word, T, N, _)." for i in range(7)]
+    write(
+        f"tokenizer_{count}",
+        ":- entry start(L, Ts) : nonvar(L).",
+        ":- entry probe(K).",
+        "start(L, Ts) :- tokens(word, L, Ts).",
+        "tokens(_, [], []).",
+        "tokens(S, L, [T|Ts]) :- step(S, L, T, S1, R, 1, _), name(T, _), tokens(S1, R, Ts).",
+        "name(t(A, at(_, _)), K) :- kind(A, K).",
+        "name(t(skip, _), none).",
+        "probe(K) :- step(word, [c0, d1, c0, d2], t(A, _), S, [X, Y], 1, 2), step(S, [blank, X, Y], _, W, R, 1, 2), step(W, R, t(B, _), _, [], 1, 2), kind(A, K), kind(B, _).",
+        *rules,
+        *states,
+    )
+
+
+def towers(count):
+    """A chain of predicates, each of which puts a functor around what it has."""
+    lines = [":- entry start(T).", "start(T) :- tower0(a, T).", "start(T) :- tower0(f(1, g(b)), T)."]
+    for i in range(count):
+        lines.append(f"tower{i}(X, T) :- tower{(i + 1) % count}(f{i % 5}(X, k(X, {i})), T).")
+        lines.append(f"tower{i}(X, X).")
+    write(f"towers_{count}", *lines)
+
+
+def nested(count):
+    """So many predicates whose heads and bodies have terms of 1,990 levels."""
+    lines = [":- entry deep0(X)."]
+    for i in range(count):
+        head = "f(a, " * 1990 + f"X{i}" + ")" * 1990
+        body = "g(" * 1990 + f"X{i}" + ")" * 1990
+        lines.append(f"deep{i}({head}) :- deep{(i + 1) % count}({body}).")
+        lines.append(f"deep{i}({body}).")
+    write(f"nested_{count}", *lines)
+
+
+for count in (10, 20):
+    lists(count)
+for count in (50, 200):
+    tokenizer(count)
+for count in (20, 40):
+    towers(count)
+for count in (10, 40):
+    nested(count)
+PYTHON
+
+"$plai" "$here/examples/app.pl" < /dev/null > "$folder/out"
+for shape in lists:10,20 tokenizer:50,200 towers:20,40 nested:10,40; do
+  name=${shape%%:*}
+  for depth in 1 3 8; do
+    last=0
+    for size in $(echo "${shape##*:}" | tr , ' '); do
+      file=$folder/${name}_$size.pl
+      before=$(date +%s%N)
+      status=0
+      timeout 300 "$plai" --domain depth --depth "$depth" "$file" < /dev/null > "$folder/out" || status=$?
+      time=$((($(date +%s%N) - before) / 100000))
+      rows=$(grep -c '^row ' "$folder/out" || true)
+      growth=
+      [ "$last" -eq 0 ] || growth=", $((time / last)).$((time * 10 / last % 10)) times"
+      echo "$name $size at depth $depth: status $status, $rows rows, $(stat -c %s "$folder/out") bytes, $((time / 10)).$((time % 10)) ms$growth"
+      last=$time
+    done
+  done
+done
