@@ -1,5 +1,9 @@
 mod Analysed
 mod Deciding
+mod Depths
 mod Endings
+mod Formed
+mod Headline
 mod Outcomes
+mod Printed
 mod Reading

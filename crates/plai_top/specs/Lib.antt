@@ -1,6 +1,7 @@
 pub mod Commands
 pub mod Ending
 pub mod Files
+pub mod Headline
 pub mod Loadings
 pub mod Outcome
 pub mod Outputs

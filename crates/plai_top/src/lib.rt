@@ -4,6 +4,7 @@
 mod analysis;
 mod command;
 mod input;
+mod laws;
 mod loading;
 mod output;
 mod refusal;
@@ -11,5 +12,6 @@ mod stop;
 mod task;
 mod top;
 
+pub use laws::printed_rows_describe_runs;
 pub use stop::Stop;
 pub use top::{outcome_is_one, run};
