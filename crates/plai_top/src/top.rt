@@ -4,6 +4,7 @@ ghost use Rattle.std.specs.Io.KnownBytes.{Keeps, IsAtEnd};
 ghost use Rattle.plai_base.specs.Causes.{Rose};
 ghost use Rattle.plai_words.specs.Command.{settings_of, texts};
 ghost use Rattle.plai_top.specs.Ending.{IsFaultOrComes, EndsByEach, EndsByWords, EndsEarly, IsSilent, IsBeforeScript, IsBeforeWork, IsStatus};
+ghost use Rattle.plai_top.specs.Headline.{TakesPromised};
 ghost use Rattle.plai_top.specs.Loadings.{IsPrepared, HasLine};
 ghost use Rattle.plai_top.specs.Outcome.{Outcome, IsByWords, IsEarly, IsOutcome, OutcomeIsOne, silent};
 ghost use Rattle.plai_top.specs.Outputs.{outcome_of, KeepsWords, KeepsEarly, IsUnread};
@@ -13,6 +14,7 @@ ghost use Rattle.plai_top.specs.Told.{IfBothTold};
 use crate::analysis::analysed;
 use crate::command::command_of;
 use crate::input::{read_files, read_script};
+use crate::laws::printed_rows_describe_runs;
 use crate::loading::{Loading, load_files};
 use crate::output::Output;
 use crate::stop::Stop;
@@ -146,6 +148,12 @@ pub fn run<B: Library, S: Source, K: Sink, W: Work, L: Ledger>(
     ensures whole { IfBothTold (B.files library.old) (S.left script.old) (λ files text.
         IsFaultOrComes (texts words.now) files text result (K.taken sink.old) (K.taken sink.new)) }
 
+    // At 0, where both tell, the bytes taken are the block of the least table of the loaded program under the domain that the
+    // words name, and every call and every answer in every left-to-right resolution, of any number of steps from a described
+    // goal, is described by one printed row.
+    ensures described { IfBothTold (B.files library.old) (S.left script.old) (λ files text. result ≡ 0 →
+        TakesPromised (texts words.now) files (K.taken sink.old) (K.taken sink.new)) }
+
     // Whatever the outcome is, the call ended by it, or, where it is a block, by the other one that may come: at a
     // fault too no other byte was written.
     ensures every { IfBothTold (B.files library.old) (S.left script.old) (λ files text.
@@ -179,6 +187,7 @@ pub fn run<B: Library, S: Source, K: Sink, W: Work, L: Ledger>(
     ensures steps { IsBeforeWork result → steps.new ≡ steps.old }
 {
     outcome_is_one();
+    printed_rows_describe_runs();
     match output(alloc, words, library, script, work, steps) {
         Ok(output) => match write_whole(sink, output.bytes.as_slice()) {
             Ok(()) => output.status,
