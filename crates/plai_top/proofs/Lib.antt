@@ -1,8 +1,10 @@
 mod Answering
 mod Deciding
 mod Endings
+mod Headline
 mod Opened
 mod Outcomes
+mod Printed
 mod Reading
 mod Scripts
 mod Written

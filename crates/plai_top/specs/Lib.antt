@@ -2,6 +2,7 @@ pub mod Blocks
 pub mod Commands
 pub mod Ending
 pub mod Files
+pub mod Headline
 pub mod Loadings
 pub mod Outcome
 pub mod Outputs

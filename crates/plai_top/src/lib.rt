@@ -5,6 +5,7 @@ mod analysis;
 mod blocks;
 mod command;
 mod input;
+mod laws;
 mod loading;
 mod plan;
 mod refusal;
@@ -13,5 +14,6 @@ mod stop;
 mod task;
 mod top;
 
+pub use laws::printed_rows_describe_runs;
 pub use stop::Stop;
 pub use top::{outcome_is_one, run};

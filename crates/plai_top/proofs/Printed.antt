@@ -1,0 +1,48 @@
+-- Each row of a table has its line in the table's block.
+use Rattle.std.proofs.Common.{◌≡◌, ℕ, List, [], ◌∷◌, ◌++◌, map, flat_map, codes, decimal, append_assoc, sym, ap, ◌∙◌, subst, inl, inr}
+use Rattle.plai_theory.specs.Words.{IsIn}
+use Rattle.plai_terms.specs.declared.plain_row.PlainRow.{PlainRow}
+use Rattle.plai_render.specs.declared.text_row.TextRow.{TextRow}
+use Rattle.plai_render.specs.Block.{pred_text, row_text, block_text}
+use Rattle.plai_render.specs.Texts.{text_of}
+use Rattle.plai_top.specs.Headline.{IsPrinted}
+
+abbrev end_of_line : List ℕ
+end_of_line = 10 ∷ []
+
+-- a row's line without its end
+abbrev line : TextRow → List ℕ
+line row = codes "row " ++ pred_text row.pred ++ codes " call " ++ row.call ++ codes " answer " ++ row.answer
+
+abbrev lines : List PlainRow → List ℕ
+lines rows = flat_map row_text (map text_of rows)
+
+-- the line stands first
+first_line : (head text behind rest : List ℕ) → (head ++ end_of_line) ++ (text ++ behind) ++ rest ≡ (head ++ 10 ∷ text) ++ (behind ++ rest)
+first_line head text behind rest =
+    ap (λ l. l ++ rest) (sym (append_assoc (head ++ end_of_line) text behind))
+    ∙ append_assoc (head ++ end_of_line ++ text) behind rest
+    ∙ ap (λ l. l ++ (behind ++ rest)) (append_assoc head end_of_line text)
+
+-- the line stands behind another one
+other_line : (head text behind rest : List ℕ)
+    → (head ++ end_of_line) ++ ((text ++ end_of_line) ++ behind) ++ rest ≡ ((head ++ end_of_line ++ text) ++ end_of_line) ++ behind ++ rest
+other_line head text behind rest =
+    ap (λ l. l ++ rest)
+    (sym (append_assoc (head ++ end_of_line) (text ++ end_of_line) behind) ∙ ap (λ l. l ++ behind) (sym (append_assoc (head ++ end_of_line) text end_of_line)))
+
+has_line : (rows : List PlainRow) (row : PlainRow) → IsIn row rows → (head rest : List ℕ) → IsPrinted ((head ++ end_of_line) ++ lines rows ++ rest) row
+has_line [] row h head rest = absurd h
+has_line (x ∷ xs) row (inl same) head rest =
+    subst (IsPrinted ((head ++ end_of_line) ++ lines (x ∷ xs) ++ rest)) same (head, lines xs ++ rest, first_line head (row_text (text_of x)) (lines xs) rest)
+has_line (x ∷ xs) row (inr h) head rest =
+    let (before, after, is) = has_line xs row h (head ++ end_of_line ++ line (text_of x)) rest in
+    (before, after, other_line head (line (text_of x)) (lines xs) rest ∙ is)
+
+pub row_is_printed : (rows : List PlainRow) (row : PlainRow) → IsIn row rows → (number : ℕ) → IsPrinted (block_text number rows) row
+row_is_printed rows row h number =
+    let head : List ℕ = codes "edit " ++ decimal number in
+    let block : (head ++ end_of_line) ++ lines rows ++ codes "end" ++ end_of_line ≡ (head ++ end_of_line) ++ lines rows ++ (codes "end" ++ end_of_line) =
+    append_assoc ((head ++ end_of_line) ++ lines rows) (codes "end") end_of_line in
+    let (before, after, is) = has_line rows row h head (codes "end" ++ end_of_line) in
+    (before, after, block ∙ is)
