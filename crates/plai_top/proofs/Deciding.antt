@@ -173,4 +173,3 @@ stop_keeps_early words None stop P ends failed = tt
 stop_keeps_early words (Some files) stop P (inl (inl fault)) failed = λ outcome other. inr (inl (fault, failed fault))
 stop_keeps_early words (Some files) stop P (inl (inr memory)) failed = λ outcome other. inr (inr memory)
 stop_keeps_early words (Some files) stop P (inr is) failed = λ outcome other. inl (early_is_one words files _ outcome is other)
-

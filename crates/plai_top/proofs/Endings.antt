@@ -66,8 +66,9 @@ module _ (words : List (List ℕ)) (files : TextMap) (script : List ℕ) where
     carried_comes : (plan : Plan) (status : ℕ) → IsPlan words files script plan → CarriesOut before after plan (Ok status)
         → (outcome : Outcome) × IsOutcome words files script outcome × Comes status before after outcome
     carried_comes (Line bytes) status is (three, took) = (line bytes.items, is, (three, took))
-    carried_comes (Blocks task program items) status (settings, same, loaded, has) (them, are, is_status, took) =
-        (done them, outcomes.blocks settings program items.items them loaded has (task_blocks settings task program items.items them same are), (is_status, took))
+    carried_comes (Blocks task program items) status (settings, same, loaded, has) written =
+        let them = written.blocks in
+        (done them, outcomes.blocks settings program items.items them loaded has (task_blocks settings task program items.items them same written.are), (written.is_status, written.bytes))
 
     module _ (one : OutcomeIsOne) where
       carried_each : (plan : Plan) (status : ℕ) → IsPlan words files script plan → CarriesOut before after plan (Ok status) → EndsByEach words files script status before after
@@ -83,11 +84,15 @@ module _ (words : List (List ℕ)) (files : TextMap) (script : List ℕ) where
           let (them, are, own) = outcome_blocks words files script settings program items.items loaded has outcome is in
           let (others, also, first) = cut them (blocks_task settings task program items.items them same are) in
           let of_settings : AreBlocks settings program items.items others = task_blocks settings task program items.items others same also in
-          let other : IsOutcome words files script (done others) = outcomes.blocks settings program items.items others loaded has of_settings in
-          (done others, other, one words files script outcome (done others) is other, elim cause [
-            | inl memory ↦ inr (inr (inr (ap status_of memory, first)))
-            | inr fault ↦ inr (inr (inl (ap status_of fault, blocks_not_empty others (some_blocks settings program items.items others of_settings), first)))
-          ])
+          let other : IsOutcome words files script (done others) = outcomes.blocks settings program items.items others loaded has of_settings in (
+            done others,
+            other,
+            one words files script outcome (done others) is other,
+            elim cause [
+              | inl memory ↦ inr (inr (inr (ap status_of memory, first)))
+              | inr fault ↦ inr (inr (inl (ap status_of fault, blocks_not_empty others (some_blocks settings program items.items others of_settings), first)))
+            ],
+          )
 
   -- ---- a stop before there is a plan
 
@@ -183,9 +188,10 @@ module _ (words : List (List ℕ)) (P : Type 0) where
 
     cut_line : (plan : Plan) (stop : Stop) (outcome : Outcome) → IsLineOf outcome plan → IsFitPlan plan → CarriesOut before after plan (Err stop)
         → EndsBy (status_of stop) before after outcome × (status_of stop ≡ 5 → P)
-    cut_line (Line bytes) stop outcome is some (fault, (n, took)) =
-        (inr (inr (inl (ap status_of fault, subst (λ l. l ≢ []) (ap (λ o. o.bytes) is) some, (n, subst (λ l. Appends before after (take n l)) (ap (λ o. o.bytes) is) took)))),
-         λ five. absurd (let e : 6 ≡ 5 = sym (ap status_of fault) ∙ five in omega arith))
+    cut_line (Line bytes) stop outcome is some (fault, (n, took)) = (
+      inr (inr (inl (ap status_of fault, subst (λ l. l ≢ []) (ap (λ o. o.bytes) is) some, (n, subst (λ l. Appends before after (take n l)) (ap (λ o. o.bytes) is) took)))),
+      λ five. absurd (let e : 6 ≡ 5 = sym (ap status_of fault) ∙ five in omega arith),
+    )
     cut_line (Blocks task program items) stop outcome is some carried = absurd is
 
     pub plan_early : (told : Option TextMap) (plan : Plan) (status : ℕ) → IfSome told (λ files. KeepsEarly words files (Ok plan) P) → CarriesOut before after plan (Ok status)

@@ -3,6 +3,7 @@ use Rattle.std.proofs.Common.{◌≡◌, ℕ, Bool, List, ◌∷◌, Result, Ok,
 use Rattle.std.specs.declared.option.Option.{Option}
 use Rattle.plai_domain.specs.Plain.{PlainDomain}
 use Rattle.plai_clauses.specs.Program.{ProgramView}
+use Rattle.plai_clauses.specs.WellFormed.{IsWellFormed}
 use Rattle.plai_clauses.specs.declared.edit_cause.EditCause.{EditCause}
 use Rattle.plai_script.specs.declared.edit.Edit.{Edit}
 use Rattle.plai_session.specs.Programs.{behind}
@@ -23,26 +24,26 @@ module _ {D : Type 0} (plain : D → PlainDomain) (session : SessionView D) (giv
   own_answer =
       let by_program : IsAnalysed (plain domain) limit session.program session.table given_answer = subst (λ g. IsAnalysed (plain domain) limit g session.table given_answer) (sym has) is in
       let by_limit : IsAnalysed (plain domain) session.limit session.program session.table given_answer =
-          subst (λ n. IsAnalysed (plain domain) n session.program session.table given_answer) (sym most) by_program in
+      subst (λ n. IsAnalysed (plain domain) n session.program session.table given_answer) (sym most) by_program in
       subst (λ d. IsAnalysed (plain d) session.limit session.program session.table given_answer) (sym own) by_limit
 
   as_given : (after : Option (List ℕ)) (result : Result ℕ Stop) → WritesBlocks (plain session.domain) session.limit (Ok session.program ∷ behind session.program items) before after result
       → WritesBlocks (plain domain) limit (Ok program ∷ behind program items) before after result
   as_given after result writes =
       let by_domain : WritesBlocks (plain domain) session.limit (Ok session.program ∷ behind session.program items) before after result =
-          subst (λ d. WritesBlocks (plain d) session.limit (Ok session.program ∷ behind session.program items) before after result) own writes in
+      subst (λ d. WritesBlocks (plain d) session.limit (Ok session.program ∷ behind session.program items) before after result) own writes in
       let by_limit : WritesBlocks (plain domain) limit (Ok session.program ∷ behind session.program items) before after result =
-          subst (λ n. WritesBlocks (plain domain) n (Ok session.program ∷ behind session.program items) before after result) most by_domain in
+      subst (λ n. WritesBlocks (plain domain) n (Ok session.program ∷ behind session.program items) before after result) most by_domain in
       subst (λ g. WritesBlocks (plain domain) limit (Ok g ∷ behind g items) before after result) has by_limit
 
   -- the other blocks were written behind it, or not all
-  pub opened_blocks : (after : Option (List ℕ)) (shows : Bool) (result : Result ℕ Stop) → Writes (Ok shows)
+  pub opened_blocks : IsWellFormed program → (after : Option (List ℕ)) (shows : Bool) (result : Result ℕ Stop) → Writes (Ok shows)
       → ((givens : List (Result ProgramView EditCause)) (from : Option (List ℕ)) → Wrote (plain session.domain) session.limit givens from now (behind session.program items) 1 shows
-         → WritesBlocks (plain session.domain) session.limit givens from after result)
+      → WritesBlocks (plain session.domain) session.limit givens from after result)
       → WritesBlocks (plain domain) limit (Ok program ∷ behind program items) before after result
-  opened_blocks after shows result writes others =
+  opened_blocks form after shows result writes others =
       as_given after result (others (Ok session.program ∷ behind session.program items) before
-      (first_written (plain session.domain) session.limit (Ok session.program) (behind session.program items) before now shows (writes (Ok session.program) own_answer)))
+      (first_written (plain session.domain) session.limit (Ok session.program) (behind session.program items) before now shows (subst IsWellFormed (sym has) form) (writes (Ok session.program) own_answer)))
 
   -- the first block wasn't written
   pub opened_stops : (stop : Stop) → Writes (Err stop) → WritesBlocks (plain domain) limit (Ok program ∷ behind program items) before now (Err stop)

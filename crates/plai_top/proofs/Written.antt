@@ -1,18 +1,20 @@
 -- Blocks that are written one by one are the blocks of a call.
-use Rattle.std.proofs.Common.{◌≡◌, ◌⊎◌, ℕ, zero, suc, ◌+◌, Bool, true, false, ◌&&◌, cond, ◌<◌, ◌≤◌, List, [], ◌∷◌, ◌++◌, None, Some, Result, Ok, Err, length, take, drop, get_or, refl, sym, ◌∙◌, ap, subst, inl, inr, arith}
+use Rattle.std.proofs.Common.{◌≡◌, ◌⊎◌, ℕ, zero, suc, ◌+◌, Bool, true, false, ◌&&◌, cond, ◌<◌, ◌≤◌, List, [], ◌∷◌, ◌++◌, None, Some, Result, Ok, Err, IfOk, length, take, drop, get_or, refl, sym, ◌∙◌, ap, subst, inl, inr, arith}
 use Rattle.std.proofs.Math.Seq.{take-append_seam, take-append-add}
 use Rattle.std.proofs.lemmas.List.{append-nil, append_assoc, length-append, drop_more, drop_all}
 use Rattle.std.proofs.lemmas.List.Folds.{list_all-append}
+use Rattle.std.proofs.lemmas.List.Elements.{All-push, All-nil}
 use Rattle.std.specs.List.{list_all}
 use Rattle.std.specs.Io.KnownBytes.{Appends, Keeps}
 use Rattle.std.specs.declared.option.Option.{Option}
 use Rattle.plai_domain.specs.Plain.{PlainDomain}
 use Rattle.plai_clauses.specs.Program.{ProgramView}
+use Rattle.plai_clauses.specs.WellFormed.{IsWellFormed}
 use Rattle.plai_clauses.specs.declared.edit_cause.EditCause.{EditCause}
 use Rattle.plai_script.specs.declared.edit.Edit.{Edit}
 use Rattle.plai_session.specs.Programs.{judged, kept, behind}
 use Rattle.plai_top.specs.Blocks.{Block, text_of, texts_from, is_table, status_of_blocks, IsBlockOf, AreBlocksOf, no_more, one_more}
-use Rattle.plai_top.specs.Writing.{IsBlockText, WritesBlock, Wrote, WritesBlocks}
+use Rattle.plai_top.specs.Writing.{IsBlockText, WritesBlock, AreFormed, Wrote, WritesBlocks}
 use Rattle.plai_top.specs.declared.stop.Stop.{Stop}
 use Rattle.plai_top.specs.declared.stop.Stop.TheVariants.{WriteFault, Memory}
 
@@ -68,13 +70,13 @@ module _ (p : PlainDomain) (limit : ℕ) where
 
   module _ (givens : List (Result ProgramView EditCause)) (before : Option (List ℕ)) where
     pub nothing_written : Appends before before [] → Wrote p limit givens before before givens 0 true
-    nothing_written none = record { earlier = []; written = []; parts = refl; are = no_more; bytes = none; count = refl; tables = refl }
+    nothing_written none = record { earlier = []; written = []; parts = refl; are = no_more; bytes = none; formed = All-nil (λ given. IfOk given IsWellFormed); count = refl; tables = refl }
 
     module _ (now : Option (List ℕ)) (given : Result ProgramView EditCause) (left : List (Result ProgramView EditCause)) (number : ℕ) (are_tables : Bool)
         (wrote : Wrote p limit givens before now (given ∷ left) number are_tables) where
       -- one block more
-      pub wrote_more : (next : Option (List ℕ)) (shows : Bool) → WritesBlock p limit number given now next (Ok shows) → Wrote p limit givens before next left (number + 1) (are_tables && shows)
-      wrote_more next shows (text, is, took) = record {
+      pub wrote_more : IfOk given IsWellFormed → (next : Option (List ℕ)) (shows : Bool) → WritesBlock p limit number given now next (Ok shows) → Wrote p limit givens before next left (number + 1) (are_tables && shows)
+      wrote_more own_form next shows (text, is, took) = record {
         earlier = wrote.earlier ++ given ∷ [];
         written = wrote.written ++ is.block ∷ [];
         parts = wrote.parts ∙ sym (append_assoc wrote.earlier (given ∷ []) left);
@@ -84,6 +86,7 @@ module _ (p : PlainDomain) (limit : ℕ) where
             let last : text ≡ texts_from (length wrote.written) (is.block ∷ []) = own ∙ ap (λ n. texts_from n (is.block ∷ [])) (sym wrote.count) in
             subst (Appends before next) (ap (λ l. texts_from 0 wrote.written ++ l) last ∙ sym (texts_behind wrote.written (is.block ∷ [])))
             (appends_then before now next (texts_from 0 wrote.written) text wrote.bytes took);
+        formed = All-push (λ g. IfOk g IsWellFormed) wrote.earlier given wrote.formed own_form;
         count = length-append wrote.written (is.block ∷ []) ∙ ap (λ n. n + 1) wrote.count;
         tables = ap (λ b. b && shows) wrote.tables ∙ ap (λ b. list_all is_table wrote.written && b) (sym (alone is.block shows is.shows))
             ∙ sym (list_all-append is_table wrote.written (is.block ∷ []));
@@ -105,13 +108,18 @@ module _ (p : PlainDomain) (limit : ℕ) where
           let behind_text : List ℕ = texts_from (number + 1) rest in
           let (m, first) = prefix_of n (text_of number block) behind_text in
           let whole : texts_from 0 blocks ≡ texts_from 0 wrote.written ++ (text_of number block ++ behind_text) =
-              texts_behind wrote.written (block ∷ rest) ∙ ap (λ k. texts_from 0 wrote.written ++ texts_from k (block ∷ rest)) wrote.count in
+          texts_behind wrote.written (block ∷ rest) ∙ ap (λ k. texts_from 0 wrote.written ++ texts_from k (block ∷ rest)) wrote.count in
           let cut : take (length (texts_from 0 wrote.written) + m) (texts_from 0 blocks) ≡ texts_from 0 wrote.written ++ take n (text_of number block) =
-              ap (take (length (texts_from 0 wrote.written) + m)) whole ∙ take-append-add (texts_from 0 wrote.written) (text_of number block ++ behind_text) m
-              ∙ ap (λ l. texts_from 0 wrote.written ++ l) first in
-          (blocks, subst (λ gs. AreBlocksOf p limit gs blocks) (sym wrote.parts) are_blocks,
-           (length (texts_from 0 wrote.written) + m, subst (Appends before next) (sym cut)
-            (appends_then before now next (texts_from 0 wrote.written) (take n (text_of number block)) wrote.bytes took)))
+          ap (take (length (texts_from 0 wrote.written) + m)) whole ∙ take-append-add (texts_from 0 wrote.written) (text_of number block ++ behind_text) m
+          ∙ ap (λ l. texts_from 0 wrote.written ++ l) first in (
+            blocks,
+            subst (λ gs. AreBlocksOf p limit gs blocks) (sym wrote.parts) are_blocks,
+            (
+              length (texts_from 0 wrote.written) + m,
+              subst (Appends before next) (sym cut)
+                  (appends_then before now next (texts_from 0 wrote.written) (take n (text_of number block)) wrote.bytes took),
+            ),
+          )
 
       first_block : (others : List Block) → AreBlocksOf p limit givens others → (block : Block) × IsBlockOf p limit given block
       first_block others are =
@@ -122,17 +130,29 @@ module _ (p : PlainDomain) (limit : ℕ) where
           head_of bs (one_more _ b _ ds is also) = (b, is)
 
       pub wrote_stops : (next : Option (List ℕ)) (stop : Stop) → WritesBlock p limit number given now next (Err stop) → WritesBlocks p limit givens before next (Err stop)
-      wrote_stops next stop (inl (memory, same)) = (inl memory, λ others are.
-          let (block, is) = first_block others are in
-          stopped_within next block is 0 (kept_appends now next same) others are)
-      wrote_stops next stop (inr (fault, (text, shows, is, (n, took)))) = (inr fault, λ others are.
-          stopped_within next is.block is.is_block n (subst (λ l. Appends now next (take n l)) is.is_text took) others are)
+      wrote_stops next stop (inl (memory, same)) = (
+        inl memory,
+        λ others are.
+            let (block, is) = first_block others are in
+            stopped_within next block is 0 (kept_appends now next same) others are,
+      )
+      wrote_stops next stop (inr (fault, (text, shows, is, (n, took)))) = (
+        inr fault,
+        λ others are.
+            stopped_within next is.block is.is_block n (subst (λ l. Appends now next (take n l)) is.is_text took) others are,
+      )
 
     pub wrote_all : (now : Option (List ℕ)) (number : ℕ) (are_tables : Bool) → Wrote p limit givens before now [] number are_tables
         → WritesBlocks p limit givens before now (Ok (cond are_tables 0 1))
     wrote_all now number are_tables wrote =
         let parts : givens ≡ wrote.earlier = wrote.parts ∙ append-nil wrote.earlier in
-        (wrote.written, subst (λ gs. AreBlocksOf p limit gs wrote.written) (sym parts) wrote.are, ap (λ b. cond b 0 1) wrote.tables, wrote.bytes)
+        record {
+          blocks = wrote.written;
+          are = subst (λ gs. AreBlocksOf p limit gs wrote.written) (sym parts) wrote.are;
+          formed = subst AreFormed (sym parts) wrote.formed;
+          is_status = ap (λ b. cond b 0 1) wrote.tables;
+          bytes = wrote.bytes;
+        }
 
 -- ---- an item of the script
 
@@ -142,16 +162,20 @@ module _ (p : PlainDomain) (limit : ℕ) (givens : List (Result ProgramView Edit
   next_left : behind program (drop i items) ≡ judged program item ∷ behind (kept program (judged program item)) (drop (i + 1) items)
   next_left = ap (behind program) (drop_more items i item within ∙ ap (λ x. x ∷ drop (i + 1) items) (sym is))
 
+  kept_form : (given : Result ProgramView EditCause) (changed : ProgramView) → changed ≡ kept program given → IsWellFormed changed → IfOk given IsWellFormed
+  kept_form (Ok own) changed same form = subst IsWellFormed same form
+  kept_form (Err cause) changed same form = tt
+
   at_next : Wrote p limit givens before now (behind program (drop i items)) number are_tables
       → Wrote p limit givens before now (judged program item ∷ behind (kept program (judged program item)) (drop (i + 1) items)) number are_tables
   at_next wrote = subst (λ l. Wrote p limit givens before now l number are_tables) next_left wrote
 
   pub item_more : (next : Option (List ℕ)) (shows : Bool) (changed : ProgramView) → Wrote p limit givens before now (behind program (drop i items)) number are_tables
-      → WritesBlock p limit number (judged program item) now next (Ok shows) → changed ≡ kept program (judged program item)
+      → WritesBlock p limit number (judged program item) now next (Ok shows) → changed ≡ kept program (judged program item) → IsWellFormed changed
       → Wrote p limit givens before next (behind changed (drop (i + 1) items)) (number + 1) (are_tables && shows)
-  item_more next shows changed wrote writes same =
+  item_more next shows changed wrote writes same form =
       subst (λ g. Wrote p limit givens before next (behind g (drop (i + 1) items)) (number + 1) (are_tables && shows)) (sym same)
-      (wrote_more p limit givens before now (judged program item) (behind (kept program (judged program item)) (drop (i + 1) items)) number are_tables (at_next wrote) next shows writes)
+      (wrote_more p limit givens before now (judged program item) (behind (kept program (judged program item)) (drop (i + 1) items)) number are_tables (at_next wrote) (kept_form (judged program item) changed same form) next shows writes)
 
   pub item_stops : (next : Option (List ℕ)) (stop : Stop) → Wrote p limit givens before now (behind program (drop i items)) number are_tables
       → WritesBlock p limit number (judged program item) now next (Err stop) → WritesBlocks p limit givens before next (Err stop)
@@ -174,9 +198,9 @@ block_for plain own domain most limit number given now next result same also wri
 -- ---- the first block
 
 pub first_written : (p : PlainDomain) (limit : ℕ) (given : Result ProgramView EditCause) (left : List (Result ProgramView EditCause)) (before now : Option (List ℕ)) (shows : Bool)
-    → WritesBlock p limit 0 given before now (Ok shows) → Wrote p limit (given ∷ left) before now left 1 shows
-first_written p limit given left before now shows writes =
-    wrote_more p limit (given ∷ left) before before given left 0 true (nothing_written p limit (given ∷ left) before (nothing_more before)) now shows writes
+    → IfOk given IsWellFormed → WritesBlock p limit 0 given before now (Ok shows) → Wrote p limit (given ∷ left) before now left 1 shows
+first_written p limit given left before now shows form writes =
+    wrote_more p limit (given ∷ left) before before given left 0 true (nothing_written p limit (given ∷ left) before (nothing_more before)) form now shows writes
 
 pub first_stops : (p : PlainDomain) (limit : ℕ) (given : Result ProgramView EditCause) (left : List (Result ProgramView EditCause)) (before now : Option (List ℕ)) (stop : Stop)
     → WritesBlock p limit 0 given before now (Err stop) → WritesBlocks p limit (given ∷ left) before now (Err stop)

@@ -2,7 +2,7 @@
 -- the rows that its entries reach, and every call and every answer in every left-to-right resolution, of any number of steps
 -- from a described goal, is described by one printed row (Muthukumar and Hermenegildo 1992; resolution with the occurs check
 -- as in Lloyd, Foundations of Logic Programming, 1987).
-use Rattle.std.specs.Prelude.{◌≡◌, ℕ, Some, List, ◌∷◌, ◌++◌}
+use Rattle.std.specs.Prelude.{◌≡◌, ℕ, ◌+◌, Some, List, [], ◌∷◌, ◌++◌, Result, Ok, Err}
 use Rattle.std.specs.Io.KnownBytes.{Appends}
 use Rattle.std.specs.declared.option.Option.{Option}
 use Rattle.plai_base.specs.Texts.{TextMap}
@@ -12,12 +12,16 @@ use Rattle.plai_terms.specs.declared.pred_key.PredKey.{PredKey}
 use Rattle.plai_terms.specs.declared.plain_row.PlainRow.{PlainRow}
 use Rattle.plai_domain.specs.Plain.{PlainDomain}
 use Rattle.plai_clauses.specs.Program.{ProgramView}
+use Rattle.plai_clauses.specs.declared.edit_cause.EditCause.{EditCause}
 use Rattle.plai_eval.specs.LeastTable.{IsLeastTable, answer_in}
 use Rattle.plai_sld.specs.Verdicts.{IsCalled, IsAnswered}
 use Rattle.plai_render.specs.Block.{row_text, block_text}
 use Rattle.plai_render.specs.Texts.{text_of}
+use Rattle.plai_script.specs.declared.edit.Edit.{Edit}
+use Rattle.plai_session.specs.Programs.{behind}
 use Rattle.plai_words.specs.declared.types.Settings.{Settings}
-use Rattle.plai_top.specs.Files.{HasProgram}
+use Rattle.plai_top.specs.Blocks.{Block, table, refused, stopped, texts_from}
+use Rattle.plai_top.specs.Outcome.{IsLoaded, HasEdits, AreBlocks}
 use Rattle.plai_top.specs.Tasks.{domain_of, task_of}
 
 -- a line of the block is the row's
@@ -47,13 +51,28 @@ pub record IsPromised (p : PlainDomain) (program : ProgramView) (number : ℕ) (
   pub written : block ≡ block_text number rows
   pub described : DescribesRuns p program block
 
--- The bytes are such a block of the program that the files are loaded to, under the domain that the words name.
-pub record IsPromisedBy (words : List (List ℕ)) (files : TextMap) (bytes : List ℕ) : Type 0 where
+-- a block that shows a table keeps the promise for its program; one that doesn't promises nothing
+abbrev pub IsPromisedBlock : PlainDomain → ℕ → Result ProgramView EditCause → Block → Type 0
+IsPromisedBlock p number (Ok program) (table rows) = IsPromised p program number (block_text number rows)
+IsPromisedBlock p number (Ok program) (refused cause) = Unit {0}
+IsPromisedBlock p number (Ok program) (stopped limit) = Unit {0}
+IsPromisedBlock p number (Err cause) block = Unit {0}
+
+-- so do the blocks of these, numbered from a number on
+abbrev pub ArePromised : PlainDomain → ℕ → List (Result ProgramView EditCause) → List Block → Type 0
+ArePromised p number [] blocks = Unit {0}
+ArePromised p number (given ∷ givens) [] = Unit {0}
+ArePromised p number (given ∷ givens) (block ∷ blocks) = IsPromisedBlock p number given block × ArePromised p (number + 1) givens blocks
+
+-- The bytes taken are the blocks of the loaded program and of the program behind each edit, or of why an edit is refused, and
+-- each block that shows a table keeps the promise.
+pub record TakesPromised (words : List (List ℕ)) (files : TextMap) (script : List ℕ) (before after : Option (List ℕ)) : Type 0 where
   pub settings : Settings
   pub program : ProgramView
-  pub loads : HasProgram words files settings program
-  pub promised : IsPromised (domain_of (task_of settings)) program 0 bytes
-
--- such bytes were taken
-abbrev pub TakesPromised : List (List ℕ) → TextMap → Option (List ℕ) → Option (List ℕ) → Type 0
-TakesPromised words files before after = (bytes : List ℕ) × IsPromisedBy words files bytes × Appends before after bytes
+  pub items : List (Result Edit EditCause)
+  pub blocks : List Block
+  pub loaded : IsLoaded words files settings program
+  pub edits : HasEdits script items
+  pub are : AreBlocks settings program items blocks
+  pub taken : Appends before after (texts_from 0 blocks)
+  pub promised : ArePromised (domain_of (task_of settings)) 0 (Ok program ∷ behind program items) blocks

@@ -1,10 +1,11 @@
 -- What was written of the blocks of a call, and how far.
-use Rattle.std.specs.Prelude.{◌≡◌, ◌⊎◌, ℕ, Bool, true, false, List, ◌++◌, length, take, Result, Ok, Err}
+use Rattle.std.specs.Prelude.{◌≡◌, ◌⊎◌, ℕ, Bool, true, false, List, ◌++◌, length, take, Result, Ok, Err, All, IfOk}
 use Rattle.std.specs.List.{list_all}
 use Rattle.std.specs.Io.KnownBytes.{Appends, Keeps}
 use Rattle.std.specs.declared.option.Option.{Option}
 use Rattle.plai_domain.specs.Plain.{PlainDomain}
 use Rattle.plai_clauses.specs.Program.{ProgramView}
+use Rattle.plai_clauses.specs.WellFormed.{IsWellFormed}
 use Rattle.plai_clauses.specs.declared.edit_cause.EditCause.{EditCause}
 use Rattle.plai_render.specs.declared.text_row.TextRow.{TextRow}
 use Rattle.plai_session.specs.Sessions.{IsAnalysed}
@@ -39,6 +40,10 @@ WritesBlock p limit number given before after (Err stop) =
     ((stop ≡ Memory) × Keeps before after)
     ⊎ ((stop ≡ WriteFault) × ((text : List ℕ) × (shows_table : Bool) × IsBlockText p limit number given text shows_table × ((n : ℕ) × Appends before after (take n text))))
 
+-- the programs are well formed
+abbrev pub AreFormed : List (Result ProgramView EditCause) → Type 0
+AreFormed givens = All (λ given. IfOk given IsWellFormed) givens
+
 -- Before now blocks of the first of these were written, numbered from 0, and none of those that are left; whether each of them
 -- shows a table.
 pub record Wrote (p : PlainDomain) (limit : ℕ) (givens : List (Result ProgramView EditCause)) (before now : Option (List ℕ))
@@ -48,18 +53,26 @@ pub record Wrote (p : PlainDomain) (limit : ℕ) (givens : List (Result ProgramV
   pub parts : givens ≡ earlier ++ left
   pub are : AreBlocksOf p limit earlier written
   pub bytes : Appends before now (texts_from 0 written)
+  pub formed : AreFormed earlier
   pub count : length written ≡ number
   pub tables : are_tables ≡ list_all is_table written
+
+-- blocks of these were written, all of them, with this status
+pub record AreWritten (p : PlainDomain) (limit : ℕ) (givens : List (Result ProgramView EditCause)) (before after : Option (List ℕ)) (status : ℕ) : Type 0 where
+  pub blocks : List Block
+  pub are : AreBlocksOf p limit givens blocks
+  pub formed : AreFormed givens
+  pub is_status : status ≡ status_of_blocks blocks
+  pub bytes : Appends before after (texts_from 0 blocks)
 
 -- Blocks of these were written, all of them. Or a write failed or memory was wanting: what was written are then the first
 -- bytes of blocks of these, if there are any.
 abbrev pub WritesBlocks : PlainDomain → ℕ → List (Result ProgramView EditCause) → Option (List ℕ) → Option (List ℕ) → Result ℕ Stop → Type 0
-WritesBlocks p limit givens before after (Ok status) =
-    (blocks : List Block) × AreBlocksOf p limit givens blocks × (status ≡ status_of_blocks blocks) × Appends before after (texts_from 0 blocks)
+WritesBlocks p limit givens before after (Ok status) = AreWritten p limit givens before after status
 WritesBlocks p limit givens before after (Err stop) =
     ((stop ≡ Memory) ⊎ (stop ≡ WriteFault))
     × ((others : List Block) → AreBlocksOf p limit givens others
-       → (blocks : List Block) × AreBlocksOf p limit givens blocks × ((n : ℕ) × Appends before after (take n (texts_from 0 blocks))))
+    → (blocks : List Block) × AreBlocksOf p limit givens blocks × ((n : ℕ) × Appends before after (take n (texts_from 0 blocks))))
 
 -- whether the block of an answer shows a table
 abbrev pub shows_table : EditAnswer → Bool

@@ -39,10 +39,28 @@ pub fn analyse_all<K: Sink, W: Work, L: Ledger>(
     let limit = task.rows;
     match task.domain {
         DomainName::Ground => {
-            write_blocks(alloc, Ground::new(), program, limit, items, sink, work, steps)
+            write_blocks(
+                alloc,
+                Ground::new(),
+                program,
+                limit,
+                items,
+                sink,
+                work,
+                steps,
+            )
         }
         DomainName::Share => {
-            write_blocks(alloc, ShareFree::new(), program, limit, items, sink, work, steps)
+            write_blocks(
+                alloc,
+                ShareFree::new(),
+                program,
+                limit,
+                items,
+                sink,
+                work,
+                steps,
+            )
         }
         DomainName::Depth => {
             let domain = DepthK::new(task.depth);

@@ -2,6 +2,7 @@
 ghost use Rattle.std.specs.Prelude.{◌≡◌, ◌≤◌, ◌⊎◌, ◌∷◌, ◌&&◌, [], ℕ, List, Option, Result, Ok, cond, unwrap_or, IfOk, IfErr, OnOk, IsErrOf};
 ghost use Rattle.plai_base.specs.Causes.{Rose};
 ghost use Rattle.plai_clauses.specs.Program.{ProgramView};
+ghost use Rattle.plai_clauses.specs.WellFormed.{IsWellFormed};
 ghost use Rattle.plai_clauses.specs.declared.edit_cause.EditCause.{EditCause};
 ghost use Rattle.plai_session.specs.Programs.{judged, kept, behind};
 ghost use Rattle.plai_script.specs.Readable.{IsReadableEdit};
@@ -142,6 +143,7 @@ fn write_item<D: Domain, K: Sink, W: Work, L: Ledger>(
 ) -> Result<bool, Stop>
     requires { IfOk item.now IsReadableEdit }
     ensures block { WritesBlock (D.plain session.old.domain) session.old.limit number (judged session.old.program item.now) (K.taken sink.old) (K.taken sink.new) result }
+    ensures formed { OnOk result (IsWellFormed session.new.program) }
     ensures program { OnOk result (session.new.program ≡ kept session.old.program (judged session.old.program item.now)) }
     ensures stop { IfErr result IsPlanStop }
     ensures same { OnOk result ((session.new.domain ≡ session.old.domain) × (session.new.limit ≡ session.old.limit)) }
@@ -150,10 +152,16 @@ fn write_item<D: Domain, K: Sink, W: Work, L: Ledger>(
 {
     match item {
         Ok(edit) => match session.edit(alloc, number, edit, work, steps) {
-            Ok(answer) => write_answer(alloc, number, session, &answer, sink),
+            Ok(answer) => {
+                session.program().is_program();
+                write_answer(alloc, number, session, &answer, sink)
+            }
             Err(_) => Err(Stop::Memory),
         },
-        Err(cause) => write_refused(alloc, number, cause, sink),
+        Err(cause) => {
+            session.program().is_program();
+            write_refused(alloc, number, cause, sink)
+        }
     }
 }
 
@@ -221,6 +229,7 @@ pub fn write_blocks<D: Domain, K: Sink, W: Work, L: Ledger>(
     ensures later { K.faults sink.old ≤ K.faults sink.new }
     ensures failed { IsErrOf result Stop.WriteFault → Rose (K.faults sink.old) (K.faults sink.new) }
 {
+    program.is_program();
     match Session::open(alloc, domain, program, limit, work, steps) {
         Ok((session, answer)) => match write_answer(alloc, 0, &session, &answer, sink) {
             Ok(is_table) => write_items(alloc, session, is_table, items, sink, work, steps),

@@ -66,7 +66,9 @@ fn script_of(alloc: Global, text: &[u8]) -> Result<Script, Stop>
 {
     match read_script(alloc, text) {
         Ok(items) => built(items),
-        Err(ScriptFail::Lex { term, cause, at }) => match script_refusal_line(alloc, term, cause, at) {
+        Err(ScriptFail::Lex { term, cause, at }) => match script_refusal_line(
+            alloc, term, cause, at,
+        ) {
             Ok(line) => Ok(Script::Refused(line)),
             Err(_) => Err(Stop::Memory),
         },

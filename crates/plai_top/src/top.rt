@@ -4,11 +4,13 @@ ghost use Rattle.std.specs.Io.KnownBytes.{Keeps, IsAtEnd};
 ghost use Rattle.plai_base.specs.Causes.{Rose};
 ghost use Rattle.plai_words.specs.Command.{settings_of, texts};
 ghost use Rattle.plai_top.specs.Ending.{IsFaultOrComes, EndsByEach, EndsByWords, EndsEarly, IsSilent, IsBeforeWork, IsStatus};
+ghost use Rattle.plai_top.specs.Headline.{TakesPromised};
 ghost use Rattle.plai_top.specs.Outcome.{Outcome, IsByWords, IsEarly, OutcomeIsOne};
 ghost use Rattle.plai_top.specs.Plans.{IsFitPlan, HasAnalysis, CarriesOut, IsPlanStatus, IsPlanStop};
 ghost use Rattle.plai_top.specs.Told.{IfBothTold};
 
 use crate::analysis::analyse_all;
+use crate::laws::printed_rows_describe_runs;
 use crate::plan::{Plan, planned};
 use crate::stop::Stop;
 use crate::task::Task;
@@ -84,6 +86,12 @@ pub fn run<B: Library, S: Source, K: Sink, W: Work, L: Ledger>(
     ensures whole { IfBothTold (B.files library.old) (S.left script.old) (λ files text.
         IsFaultOrComes (texts words.now) files text result (K.taken sink.old) (K.taken sink.new)) }
 
+    // At 0 and 1, where both tell, each block that shows a table is that of the least table of its program under the domain that
+    // the words name, and every call and every answer in every left-to-right resolution, of any number of steps from a described
+    // goal, is described by one printed row.
+    ensures described { IfBothTold (B.files library.old) (S.left script.old) (λ files text. (result ≡ 0) ⊎ (result ≡ 1)
+        → TakesPromised (texts words.now) files text (K.taken sink.old) (K.taken sink.new)) }
+
     // Whatever the outcome is, the call ended by it, or by one with stops in the place of some of its blocks: at a fault too no
     // other byte was written.
     ensures every { IfBothTold (B.files library.old) (S.left script.old) (λ files text.
@@ -118,6 +126,7 @@ pub fn run<B: Library, S: Source, K: Sink, W: Work, L: Ledger>(
     ensures steps { IsBeforeWork result → steps.new ≡ steps.old }
 {
     outcome_is_one();
+    printed_rows_describe_runs();
     match planned(alloc, words, library, script) {
         Ok(plan) => match carry_out(alloc, plan, sink, work, steps) {
             Ok(status) => status,

@@ -4,6 +4,8 @@
 #[cfg(test)]
 mod depths;
 #[cfg(test)]
+mod edits;
+#[cfg(test)]
 mod refusals;
 #[cfg(test)]
 mod sharing;

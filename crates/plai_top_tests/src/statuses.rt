@@ -121,20 +121,6 @@ fn a_chain_of_predicates(rt: HostRuntime) -> Result<(), Fail> {
 }
 
 #[test]
-fn a_script_isnt_taken_yet(rt: HostRuntime) -> Result<(), Fail> {
-    let alloc = rt.alloc();
-    for (text, want) in [(FACTS, 8), (b"p(a).".as_slice(), 3)] {
-        let mut library = HonestLibrary::new(files_of(alloc, &[("a.pl", text)])?);
-        let mut script = MemorySource::new(vec![in alloc; b' ']?, 1, Vec::new(alloc));
-        let mut sink = MemorySink::new(alloc, 100, 3, Vec::new(alloc))?;
-        let got = status(alloc, &["a.pl"], &mut library, &mut script, &mut sink);
-        assert_eq!(rt; got, want);
-        assert_eq!(rt; sink.bytes().is_empty(), want == 8);
-    }
-    Ok(())
-}
-
-#[test]
 fn a_read_fails(rt: HostRuntime) -> Result<(), Fail> {
     let alloc = rt.alloc();
     for (failing_file, failing_script) in [(1, 9), (2, 9), (9, 1)] {

@@ -71,8 +71,18 @@ pub(crate) fn outcome(
     words: &[&str],
     files: &[File<'_>],
 ) -> Result<(u8, Vec<u8>), AllocError> {
+    edited(alloc, words, files, b"")
+}
+
+/// The status and the output of these words over these files and a script.
+pub(crate) fn edited(
+    alloc: Global,
+    words: &[&str],
+    files: &[File<'_>],
+    script: &[u8],
+) -> Result<(u8, Vec<u8>), AllocError> {
     let mut library = HonestLibrary::new(files_of(alloc, files)?);
-    let mut script = MemorySource::new(Vec::new(alloc), 1, Vec::new(alloc));
+    let mut script = MemorySource::new(script.to_vec(alloc)?, 7, Vec::new(alloc));
     let mut sink = MemorySink::new(alloc, 10_000, 10_000, Vec::new(alloc))?;
     let got = status(alloc, words, &mut library, &mut script, &mut sink);
     Ok((got, sink.bytes().to_vec(alloc)?))

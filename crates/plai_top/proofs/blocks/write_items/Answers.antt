@@ -27,7 +27,7 @@ loop-item-preserved g c =
           (item_more (plain own.domain) own.limit givens before now at.session.program c.args.items.now at.item-index c.item-item.result at.number at.are_tables c.loop-item-test.true c.item-item.is
           next c.in-Ok.shows_table c.write_item.new.session.program (at.invariant.wrote givens before begun)
           (block_for plain at.session.domain own.domain at.session.limit own.limit at.number (judged at.session.program c.item-item.result) now next (Ok c.in-Ok.shows_table) at.invariant.domain at.invariant.limit c.in-Ok.ensures.block)
-          c.in-Ok.ensures.program);
+          c.in-Ok.ensures.program c.in-Ok.ensures.formed);
       domain = c.in-Ok.ensures.same.0 ∙ at.invariant.domain;
       limit = c.in-Ok.ensures.same.1 ∙ at.invariant.limit;
       count = ap (λ n. n + 1) at.invariant.count;
