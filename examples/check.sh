@@ -6,11 +6,11 @@ set -u
 cd "$(dirname "${BASH_SOURCE[0]}")" || exit 1
 failed=0
 
-# what is printed, the status, and the words
+# what is printed, the status, the script, and the words
 check() {
-  local table=$1 wanted=$2 status
-  shift 2
-  ../plai "$@" < /dev/null | cmp -s - "$table"
+  local table=$1 wanted=$2 script=$3 status
+  shift 3
+  ../plai "$@" < "$script" | cmp -s - "$table"
   status=("${PIPESTATUS[@]}")
   if [ "${status[0]}" -ne "$wanted" ]; then
     echo "status ${status[0]}, not $wanted: $table"
@@ -23,16 +23,17 @@ check() {
   fi
 }
 
-check app.table 0 app.pl
-check deriv.table 0 deriv.pl
-check fact.table 0 fact.pl
-check len.table 0 len.pl
-check never.table 0 never.pl
-check sort.table 0 sort.pl lists.pl
-check rows.table 1 --rows 2 sort.pl lists.pl
-check findall.table 3 findall.pl
+check app.table 0 /dev/null app.pl
+check deriv.table 0 /dev/null deriv.pl
+check fact.table 0 /dev/null fact.pl
+check len.table 0 /dev/null len.pl
+check never.table 0 /dev/null never.pl
+check sort.table 0 /dev/null sort.pl lists.pl
+check rows.table 1 /dev/null --rows 2 sort.pl lists.pl
+check findall.table 3 /dev/null findall.pl
+check edits.table 1 sort.edits sort.pl lists.pl
 
-for file in *.pl *.table; do
+for file in *.pl *.table *.edits; do
   if ! cmp -s "$file" "../crates/plai_examples/data/$file"; then
     echo "another copy: $file"
     failed=1

@@ -15,10 +15,11 @@ use std::sync::ledger::{Blank, Ledger};
 /// More bytes than an example's table has.
 const ROOM: usize = 65_536;
 
-/// The status that plai ends with for these words and no edits, over the system's files.
+/// The status that plai ends with for these words and a script, over the system's files.
 fn status<L: Ledger, B: Library>(
     alloc: Global,
     words: &[&str],
+    script: Vec<u8>,
     library: &mut B,
     sink: &mut MemorySink,
     blank: Blank,
@@ -27,7 +28,7 @@ fn status<L: Ledger, B: Library>(
     requires parts { blank.parts ≡ L.parts }
     requires some { 0 < blank.parts }
 {
-    let mut script = MemorySource::new(Vec::new(alloc), 1, Vec::new(alloc));
+    let mut script = MemorySource::new(script, 64, Vec::new(alloc));
     let mut steps = Steps::<L>::new(blank);
     run(
         alloc,
@@ -40,11 +41,12 @@ fn status<L: Ledger, B: Library>(
     )
 }
 
-/// Whether plai prints, for these words, what stands in that file, and ends with that status.
+/// Whether plai prints, for these words and a script, what stands in that file, and ends with that status.
 fn prints_table<B: Library>(
     alloc: Global,
     library: &mut B,
     words: &[&str],
+    script: Vec<u8>,
     table: &str,
     wanted: u8,
 ) -> Result<bool, AllocError> {
@@ -53,18 +55,20 @@ fn prints_table<B: Library>(
         return Ok(false);
     }
     let mut sink = MemorySink::new(alloc, ROOM, ROOM, Vec::new(alloc))?;
-    let status = status::<Brand, B>(alloc, words, library, &mut sink, Blank::new(1));
+    let status = status::<Brand, B>(alloc, words, script, library, &mut sink, Blank::new(1));
     Ok(status == wanted && sink.bytes() == want.as_slice())
 }
 
 fn tell<R: Files + Print + AllocGlobal>(
     rt: &R,
     words: &[&str],
+    script: &[u8],
     table: &str,
     wanted: u8,
 ) -> io::Result<()> {
     let mut library = FileLibrary::new(rt);
-    let word = if prints_table(rt.alloc(), &mut library, words, table, wanted)? {
+    let script = script.to_vec(rt.alloc())?;
+    let word = if prints_table(rt.alloc(), &mut library, words, script, table, wanted)? {
         "as expected"
     } else {
         "another table"
@@ -72,18 +76,42 @@ fn tell<R: Files + Print + AllocGlobal>(
     println!(rt; "{table}: {word}")
 }
 
+/// Tells of the example whose script stands in that file.
+fn tell_edits<R: Files + Print + AllocGlobal>(
+    rt: &R,
+    words: &[&str],
+    script: &str,
+    table: &str,
+    wanted: u8,
+) -> io::Result<()> {
+    let mut library = FileLibrary::new(rt);
+    let mut text = Vec::new(rt.alloc());
+    match library.read(rt.alloc(), script, &mut text) {
+        Ok(()) => tell(rt, words, text.as_slice(), table, wanted),
+        Err(_) => println!(rt; "{script}: not read"),
+    }
+}
+
 fn main(rt: HostRuntime) -> io::Result<()> {
-    tell(&rt, &["app.pl"], "app.table", 0)?;
-    tell(&rt, &["sort.pl", "lists.pl"], "sort.table", 0)?;
-    tell(&rt, &["len.pl"], "len.table", 0)?;
-    tell(&rt, &["deriv.pl"], "deriv.table", 0)?;
-    tell(&rt, &["fact.pl"], "fact.table", 0)?;
-    tell(&rt, &["never.pl"], "never.table", 0)?;
+    tell(&rt, &["app.pl"], b"", "app.table", 0)?;
+    tell(&rt, &["sort.pl", "lists.pl"], b"", "sort.table", 0)?;
+    tell(&rt, &["len.pl"], b"", "len.table", 0)?;
+    tell(&rt, &["deriv.pl"], b"", "deriv.table", 0)?;
+    tell(&rt, &["fact.pl"], b"", "fact.table", 0)?;
+    tell(&rt, &["never.pl"], b"", "never.table", 0)?;
     tell(
         &rt,
         &["--rows", "2", "sort.pl", "lists.pl"],
+        b"",
         "rows.table",
         1,
     )?;
-    tell(&rt, &["findall.pl"], "findall.table", 3)
+    tell(&rt, &["findall.pl"], b"", "findall.table", 3)?;
+    tell_edits(
+        &rt,
+        &["sort.pl", "lists.pl"],
+        "sort.edits",
+        "edits.table",
+        1,
+    )
 }
