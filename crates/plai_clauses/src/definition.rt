@@ -1,85 +1,15 @@
 //! The clauses of the predicates.
-ghost use Rattle.std.specs.Prelude.{◌≡◌, ◌<◌, ◌+◌, ◌-◌, ◌^◌, ◌++◌, [], ◌∷◌, length, min, take, IfOk, OnOk, OnErr};
+ghost use Rattle.std.specs.Prelude.{◌≡◌, ◌<◌, ◌+◌, ◌-◌, ◌^◌, [], ◌∷◌, length, min, take, IfOk, OnOk, OnErr};
 ghost use Rattle.std.specs.List.{remove, sum_by};
 ghost use Rattle.indexmap.specs.IndexMap.{insert_entry, IsUnique};
 ghost use Rattle.plai_clauses.specs.Program.{clauses_in, same_pred, with_clause, changed_in};
 ghost use Rattle.plai_clauses.specs.Keyed.{definitions_in};
 
 use crate::clause::Clause;
+use crate::clause_list::ClauseList;
 use indexmap::IndexMap;
 use plai_terms::PredKey;
 use std::alloc::{AllocError, Global};
-use std::marker::Model;
-
-/// The clauses of a predicate in order. Contracts see the list.
-#[derive(Debug, Drop)]
-pub struct ClauseList {
-    clauses: Vec<Clause>,
-}
-
-impl Model for ClauseList {
-    ghost use Rattle.std.specs.Prelude.{List};
-    ghost use Rattle.std.specs.Coded.{coded_list};
-    ghost use Rattle.plai_clauses.specs.declared.clause.Clause.{Clause};
-    ghost use Rattle.plai_clauses.specs.contracts.clause.Clause as clause;
-
-    ghost Value = { List Clause };
-
-    ghost coded = { coded_list clause.the_row.coded };
-
-    ghost view = { λ l. l.clauses.items };
-}
-
-fn copy_clauses(alloc: Global, clauses: &[Clause]) -> Result<Vec<Clause>, AllocError>
-    ensures { IfOk result (λ copies. copies.items ≡ clauses.now) }
-{
-    let mut copies = Vec::new(alloc);
-    for clause in clauses {
-        copies.push(clause.copy(alloc)?)?;
-    }
-    Ok(copies)
-}
-
-impl ClauseList {
-    fn new(clauses: Vec<Clause>) -> ClauseList
-        ensures { result ≡ clauses.items }
-    {
-        ClauseList { clauses }
-    }
-
-    fn as_slice(&self) -> &[Clause]
-        ensures { result.now ≡ self.now }
-    {
-        self.clauses.as_slice()
-    }
-
-    fn copy(&self, alloc: Global) -> Result<ClauseList, AllocError>
-        ensures { IfOk result (λ list. list ≡ self.now) }
-    {
-        Ok(ClauseList::new(copy_clauses(alloc, self.as_slice())?))
-    }
-
-    fn push(&mut self, clause: Clause) -> Result<(), AllocError>
-        ensures ok { OnOk result (self.new ≡ self.old ++ clause ∷ []) }
-        ensures err { OnErr result (self.new ≡ self.old) }
-    {
-        self.clauses.push(clause)?;
-        Ok(())
-    }
-
-    fn remove(&mut self, place: usize)
-        requires { place < length self.old }
-        ensures { self.new ≡ remove self.old place }
-    {
-        let _ = self.clauses.remove(place);
-    }
-
-    fn clear(&mut self)
-        ensures { self.new ≡ [] }
-    {
-        self.clauses.clear();
-    }
-}
 
 /// A predicate with its clauses.
 #[derive(Debug, Drop)]
@@ -91,7 +21,7 @@ pub struct Definition {
 /// The clauses of each predicate, found by its key, in the order in which the predicates came.
 pub(crate) type Definitions = IndexMap<PredKey, ClauseList>;
 
-// Puts an equal predicate with equal clauses last.
+// Puts an equal predicate with the same clauses last.
 fn push_copy(
     alloc: Global,
     definitions: &Definitions,
@@ -104,10 +34,11 @@ fn push_copy(
     ensures { OnOk result (copies.new.entries ≡ take (place + 1) definitions.now.entries) }
 {
     let (pred, clauses) = definitions.get_index(place).unwrap();
-    copies.insert(pred.copy(alloc)?, clauses.copy(alloc)?)?;
+    copies.insert(pred.copy(alloc)?, clauses.share()?)?;
     Ok(())
 }
 
+/// Equal definitions. Each predicate is copied, and its clauses have one more owner.
 pub(crate) fn copy_definitions(
     alloc: Global,
     definitions: &Definitions,
@@ -140,8 +71,8 @@ fn push_new(
     ensures ok { OnOk result (definitions.new.entries ≡ insert_entry same_pred definitions.old.entries pred (clause ∷ [])) }
     ensures err { OnErr result (definitions.new.entries ≡ definitions.old.entries) }
 {
-    let mut clauses = ClauseList::new(Vec::new(alloc));
-    clauses.push(clause)?;
+    let mut clauses = ClauseList::new();
+    clauses.push(alloc, clause)?;
     definitions.insert(pred, clauses)?;
     Ok(())
 }
@@ -157,19 +88,25 @@ pub(crate) fn push_clause(
     ensures err { OnErr result (definitions.new.entries ≡ definitions.old.entries) }
 {
     match definitions.get_mut(&pred) {
-        Some(clauses) => clauses.push(clause),
+        Some(clauses) => clauses.push(alloc, clause),
         None => push_new(alloc, definitions, pred, clause),
     }
 }
 
 /// Takes the clause at that place in its predicate away.
-pub(crate) fn remove_clause(definitions: &mut Definitions, pred: &PredKey, number: usize)
+pub(crate) fn remove_clause(
+    alloc: Global,
+    definitions: &mut Definitions,
+    pred: &PredKey,
+    number: usize,
+) -> Result<(), AllocError>
     requires { number < length (clauses_in (definitions_in definitions.old.entries) pred.now) }
-    ensures { definitions_in definitions.new.entries ≡ changed_in (λ clauses. remove clauses number) (definitions_in definitions.old.entries) pred.now }
+    ensures ok { OnOk result (definitions_in definitions.new.entries ≡ changed_in (λ clauses. remove clauses number) (definitions_in definitions.old.entries) pred.now) }
+    ensures err { OnErr result (definitions.new.entries ≡ definitions.old.entries) }
 {
     match definitions.get_mut(pred) {
-        Some(clauses) => clauses.remove(number),
-        None => {}
+        Some(clauses) => clauses.remove(alloc, number),
+        None => Ok(()),
     }
 }
 

@@ -4,6 +4,7 @@
 mod cause;
 mod check;
 mod clause;
+mod clause_list;
 mod definition;
 mod edit_cause;
 mod entry;

@@ -79,7 +79,7 @@ impl Program {
         }
     }
 
-    /// An equal program.
+    /// An equal program. The clauses of each predicate have one more owner; nothing of them is copied.
     pub fn copy(&self, alloc: Global) -> Result<Program, AllocError>
         ensures { IfOk result (λ copy. copy ≡ self.now) }
     {
@@ -128,7 +128,7 @@ impl Program {
     /// Takes the predicate's clause of that number, from 1, away. After want of memory the program is as before.
     pub fn remove_clause(
         &mut self,
-        _alloc: Global,
+        alloc: Global,
         pred: &PredKey,
         number: u64,
     ) -> Result<(), AllocError>
@@ -137,7 +137,7 @@ impl Program {
         ensures ok { OnOk result (self.new ≡ without_clause self.old pred.now number) }
         ensures err { OnErr result (self.new ≡ self.old) }
     {
-        remove_clause(&mut self.definitions, pred, (number - 1) as usize);
+        remove_clause(alloc, &mut self.definitions, pred, (number - 1) as usize)?;
         Ok(())
     }
 

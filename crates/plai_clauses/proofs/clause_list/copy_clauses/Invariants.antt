@@ -1,5 +1,5 @@
 use Rattle.std.proofs.Common.{◌≡◌, take}
-use Rattle.plai_clauses.proofs.definition.copy_clauses.Given as goal
+use Rattle.plai_clauses.proofs.clause_list.copy_clauses.Given as goal
 
 abbrev pub invariant-loop-clause : goal.invariant-loop-clause
 invariant-loop-clause l = l.copies.items ≡ take l.clause-index l.clauses
