@@ -60,6 +60,3 @@ past_brought n (b ∷ bs) v lt w o =
           let l : w < past n bs = past_brought n bs v lt w at in
           omega arith
     ]
-
-pub one_is_below : (n : ℕ) (t : Term) (ts : List Term) → ts ≡ t ∷ [] → IsBelow n t → AreBelow n ts
-one_is_below n t ts e below v o = elim (or_cases (occurs v t) false (sym (ap (occurs_in v) e) ∙ o)) [ inl p ↦ below v p | inr p ↦ cc ]

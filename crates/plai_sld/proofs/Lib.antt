@@ -15,4 +15,5 @@ mod Reached
 mod Found
 mod Kept
 mod Stacks
+mod Readings
 mod Verdicts

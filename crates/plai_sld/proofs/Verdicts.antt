@@ -11,16 +11,22 @@ use Rattle.plai_domain.specs.Plain.{PlainDomain}
 use Rattle.plai_domain.specs.Instances.{has_property, has_properties, speaks_within}
 use Rattle.plai_domain.specs.Soundness.{IsSound}
 use Rattle.plai_clauses.specs.declared.check.Check.{Check}
+use Rattle.plai_clauses.specs.declared.check.CheckKind.{CheckKind}
+use Rattle.plai_clauses.specs.declared.check.CheckKind.TheVariants.{Calls, Success}
 use Rattle.plai_clauses.specs.declared.entry.Entry.{Entry}
 use Rattle.plai_clauses.specs.Program.{ProgramView, entries_of}
 use Rattle.plai_clauses.specs.WellFormed.{IsWellFormedCheck, IsWellFormed}
+use Rattle.plai_assert.specs.declared.verdict.Verdict.{Verdict}
+use Rattle.plai_assert.specs.declared.verdict.Verdict.TheVariants.{Checked, False, Check as Unknown}
+use Rattle.plai_assert.specs.Verdicts.{verdict_of}
 use Rattle.plai_eval.proofs.Closed.{all_in}
 use Rattle.plai_sld.specs.declared.item.Item.{Item}
 use Rattle.plai_sld.specs.declared.item.Item.TheVariants.{Call, Mark}
 use Rattle.plai_sld.specs.Runs.{RunState}
 use Rattle.plai_sld.specs.States.{AreItems}
 use Rattle.plai_sld.specs.Described.{IsDescribedGoal, IsFrontDescribed, AreRunsDescribed}
-use Rattle.plai_sld.specs.Verdicts.{IsReached, IsCalled, IsAnswered, Excludes, AreCallsChecked, AreCallsFalse, AreAnswersChecked, AreAnswersFalse}
+use Rattle.plai_sld.specs.Verdicts.{IsReached, IsCalled, IsAnswered, Promises, IsKeptByRuns}
+use Rattle.plai_sld.proofs.Readings.{Excludes, AreCallsChecked, AreCallsFalse, AreAnswersChecked, AreAnswersFalse, calls_hold, calls_fail, answers_hold, answers_fail}
 use Rattle.plai_sld.proofs.Kept.{run_state, start_is_state}
 
 of_recursion : {A : Type 0} (P : A → Type 0) (xs : List A) → AllByRecursion P xs → (x : A) → IsIn x xs → P x
@@ -55,19 +61,19 @@ module _ (p : PlainDomain) (g : ProgramView) (formed : IsWellFormed g) (sound : 
       all_in (has_property ts) props (λ q i. sound.tells_truly.entails a q ts (subst (λ k. speaks_within k q) (sym many) (of_all (speaks_within n) props within q i)) told (h q i))
 
   module _ (check : Check) (good : IsWellFormedCheck check) where
-    pub calls_checked : AreCallsChecked p rows check → (args : List Term) → IsCalled p g check.pred args → has_properties args check.pre
+    calls_checked : AreCallsChecked p rows check → (args : List Term) → IsCalled p g check.pred args → has_properties args check.pre
     calls_checked h args (state, reached, rest, e) =
         let items = reached_items state reached (Call check.pred args ∷ rest) e in
         let (row, i, is, told) = reached_front state reached (Call check.pred args ∷ rest) e in
         all_entailed row.name.call check.pre args check.pred.arity items.0.0 good.pre told (h row i is)
 
-    pub calls_false : AreCallsFalse p rows check → (args : List Term) → IsCalled p g check.pred args → has_properties args check.pre → ⊥
+    calls_false : AreCallsFalse p rows check → (args : List Term) → IsCalled p g check.pred args → has_properties args check.pre → ⊥
     calls_false h args (state, reached, rest, e) has =
         let items = reached_items state reached (Call check.pred args ∷ rest) e in
         let (row, i, is, told) = reached_front state reached (Call check.pred args ∷ rest) e in
         not_excluded row.name.call check.pre args check.pred.arity items.0.0 good.pre told has (h row i is)
 
-    pub answers_checked : AreAnswersChecked p rows check → (was now : List Term) → IsAnswered p g check.pred was now → has_properties was check.pre → has_properties now check.post
+    answers_checked : AreAnswersChecked p rows check → (was now : List Term) → IsAnswered p g check.pred was now → has_properties was check.pre → has_properties now check.post
     answers_checked h was now (state, reached, rest, e) has =
         let items = reached_items state reached (Mark check.pred was now ∷ rest) e in
         let (row, i, is, called, a, answer, told) = reached_front state reached (Mark check.pred was now ∷ rest) e in
@@ -76,7 +82,7 @@ module _ (p : PlainDomain) (g : ProgramView) (formed : IsWellFormed g) (sound : 
           | inr all ↦ all_entailed a check.post now check.pred.arity items.0.1 good.post told (all a answer)
         ]
 
-    pub answers_false : AreAnswersFalse p rows check → (was now : List Term) → IsAnswered p g check.pred was now → has_properties was check.pre → has_properties now check.post → ⊥
+    answers_false : AreAnswersFalse p rows check → (was now : List Term) → IsAnswered p g check.pred was now → has_properties was check.pre → has_properties now check.post → ⊥
     answers_false h was now (state, reached, rest, e) has those =
         let items = reached_items state reached (Mark check.pred was now ∷ rest) e in
         let (row, i, is, called, a, answer, told) = reached_front state reached (Mark check.pred was now ∷ rest) e in
@@ -84,3 +90,15 @@ module _ (p : PlainDomain) (g : ProgramView) (formed : IsWellFormed g) (sound : 
           | inl out ↦ not_excluded row.name.call check.pre was check.pred.arity items.0.0 good.pre called has out
           | inr all ↦ not_excluded a check.post now check.pred.arity items.0.1 good.post told those (all a answer)
         ]
+
+    kept_by : (kind : CheckKind) (verdict : Verdict) → check.kind ≡ kind → verdict_of p rows check ≡ verdict → Promises kind verdict p g check
+    kept_by Calls Checked k v = calls_checked (calls_hold p rows check k v)
+    kept_by Calls False k v = calls_false (calls_fail p rows check k v)
+    kept_by Calls Unknown k v = tt
+    kept_by Success Checked k v = answers_checked (answers_hold p rows check k v)
+    kept_by Success False k v = answers_false (answers_fail p rows check k v)
+    kept_by Success Unknown k v = tt
+
+    -- Theorem: what a verdict promises holds in all runs.
+    pub verdict_kept : IsKeptByRuns p g check (verdict_of p rows check)
+    verdict_kept = kept_by check.kind (verdict_of p rows check) refl refl

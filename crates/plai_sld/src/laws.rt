@@ -10,11 +10,12 @@ ghost use Rattle.plai_clauses.specs.declared.check.Check.{Check};
 ghost use Rattle.plai_clauses.specs.declared.entry.Entry.{Entry};
 ghost use Rattle.plai_clauses.specs.Program.{ProgramView, entries_of};
 ghost use Rattle.plai_clauses.specs.WellFormed.{IsWellFormed, IsWellFormedCheck};
+ghost use Rattle.plai_assert.specs.Verdicts.{verdict_of};
 ghost use Rattle.plai_eval.specs.LeastTable.{IsLeastTable};
 ghost use Rattle.plai_sld.specs.Runs.{RunState, start_of, IsStep, IsRun};
 ghost use Rattle.plai_sld.specs.States.{IsState};
 ghost use Rattle.plai_sld.specs.Described.{IsClosed, IsDescribedGoal, AreRunsDescribed};
-ghost use Rattle.plai_sld.specs.Verdicts.{IsCalled, IsAnswered, AreCallsChecked, AreCallsFalse, AreAnswersChecked, AreAnswersFalse};
+ghost use Rattle.plai_sld.specs.Verdicts.{IsKeptByRuns};
 
 use plai_builtins::meanings_are_allowed;
 use plai_eval::AnyPlainDomain;
@@ -54,28 +55,10 @@ pub fn verdicts_hold_of_runs<T: AnyPlainDomain>()
         → (entry : Entry) → IsIn entry (entries_of program) → (args : List Term) → length args ≡ entry.pred.arity
         → has_properties args entry.pre → IsDescribedGoal (T.plain domain) program entry.pred args }
 
-    // Of calls that are checked, all have what is demanded of calls; where they are false, none has all of it.
-    ensures calls_checked { (domain : T) → IsLawful (T.plain domain) → IsSound (T.plain domain) → (program : ProgramView) → IsWellFormed program
+    // What a verdict promises of calls or of answers holds in all runs.
+    ensures verdicts { (domain : T) → IsLawful (T.plain domain) → IsSound (T.plain domain) → (program : ProgramView) → IsWellFormed program
         → (rows : List PlainRow) → IsClosed (T.plain domain) program rows → (check : Check) → IsWellFormedCheck check
-        → AreCallsChecked (T.plain domain) rows check
-        → (args : List Term) → IsCalled (T.plain domain) program check.pred args → has_properties args check.pre }
-    ensures calls_false { (domain : T) → IsLawful (T.plain domain) → IsSound (T.plain domain) → (program : ProgramView) → IsWellFormed program
-        → (rows : List PlainRow) → IsClosed (T.plain domain) program rows → (check : Check) → IsWellFormedCheck check
-        → AreCallsFalse (T.plain domain) rows check
-        → (args : List Term) → IsCalled (T.plain domain) program check.pred args → ¬ (has_properties args check.pre) }
-
-    // Of answers to calls that had what is demanded of calls: where they are checked, all have what is demanded of answers; where
-    // they are false, none has all of it.
-    ensures answers_checked { (domain : T) → IsLawful (T.plain domain) → IsSound (T.plain domain) → (program : ProgramView) → IsWellFormed program
-        → (rows : List PlainRow) → IsClosed (T.plain domain) program rows → (check : Check) → IsWellFormedCheck check
-        → AreAnswersChecked (T.plain domain) rows check
-        → (was now : List Term) → IsAnswered (T.plain domain) program check.pred was now
-        → has_properties was check.pre → has_properties now check.post }
-    ensures answers_false { (domain : T) → IsLawful (T.plain domain) → IsSound (T.plain domain) → (program : ProgramView) → IsWellFormed program
-        → (rows : List PlainRow) → IsClosed (T.plain domain) program rows → (check : Check) → IsWellFormedCheck check
-        → AreAnswersFalse (T.plain domain) rows check
-        → (was now : List Term) → IsAnswered (T.plain domain) program check.pred was now
-        → has_properties was check.pre → ¬ (has_properties now check.post) }
+        → IsKeptByRuns (T.plain domain) program check (verdict_of (T.plain domain) rows check) }
 {
     meanings_are_allowed();
 }

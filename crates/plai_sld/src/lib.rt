@@ -8,8 +8,6 @@ mod run;
 mod stack;
 mod stepped;
 mod terms;
-#[cfg(test)]
-mod tests;
 
 pub use item::Item;
 pub use laws::{closed_tables_describe_runs, laws_of_runs, verdicts_hold_of_runs};

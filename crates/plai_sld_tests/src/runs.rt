@@ -1,8 +1,8 @@
 ghost use Rattle.std.specs.Prelude.{◌≡◌, true, IfOk};
 ghost use Rattle.plai_terms.specs.Readable.{is_wide};
 
-use crate::{Run, Stepped, laws_of_runs};
 use plai_clauses::{Clause, Imports, Module, Program};
+use plai_sld::{Run, Stepped, laws_of_runs};
 use plai_terms::{Args, Listed, Name, PredKey, ReadTerm, Term};
 use std::alloc::{AllocError, Global};
 use std::process::Abort;

@@ -1,0 +1,4 @@
+pub mod Rows
+pub mod Verdicts
+pub mod Groups
+pub mod Sides
