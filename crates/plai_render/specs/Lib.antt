@@ -1,4 +1,5 @@
 pub mod Block
+pub mod Made
 pub mod Order
 pub mod Refused
 pub mod Stopped

@@ -3,8 +3,11 @@ ghost use Rattle.plai_render.specs.Block.{pred_text, row_text, lines_text, block
 ghost use Rattle.plai_render.specs.Order.{IsNarrow};
 ghost use Rattle.plai_render.specs.Texts.{text_of};
 
+use crate::checked::write_checks;
 use crate::text_row::TextRow;
 use itoa::Buffer;
+use plai_assert::Verdict;
+use plai_clauses::Check;
 use plai_terms::{Listed, PlainRow, PredKey, print_name};
 use std::alloc::{AllocError, Global};
 
@@ -59,21 +62,25 @@ pub(crate) fn write_head(number: u64, out: &mut Vec<u8>) -> Result<(), AllocErro
 }
 
 /// Appends the block of a table that is given as text: the line `edit K` with the number K, a line
-/// `row M:P/A call C answer R` for each row, in the order given, and the line `end`.
+/// `row M:P/A call C answer R` for each row, in the order given, a line `check M N V` for each assertion with its verdict,
+/// numbered from 1 within its module, and the line `end`.
 ///
 /// After want of memory `out` is as before.
 pub fn render_texts(
     alloc: Global,
     number: u64,
     rows: &[TextRow],
+    checks: &[Check],
+    verdicts: &[Verdict],
     out: &mut Vec<u8>,
 ) -> Result<(), AllocError>
-    ensures ok { OnOk result (out.new.items ≡ out.old.items ++ lines_text number rows.now) }
+    ensures ok { OnOk result (out.new.items ≡ out.old.items ++ lines_text number rows.now checks.now verdicts.now) }
     ensures err { OnErr result (out.new.items ≡ out.old.items) }
 {
     let mut text = Vec::new(alloc);
     write_head(number, &mut text)?;
     write_rows(alloc, rows, &mut text)?;
+    write_checks(alloc, checks, verdicts, &mut text)?;
     text.extend_from_slice(b"end\n")?;
     out.extend_from_slice(&text)
 }
@@ -91,19 +98,22 @@ fn texts(alloc: Global, rows: &[PlainRow]) -> Result<Vec<TextRow>, AllocError>
 }
 
 /// Appends the block of a table: the line `edit K` with the number K, a line `row M:P/A call C answer R`
-/// for each row, in the order given, and the line `end`. Arguments are numbered from 1.
+/// for each row, in the order given, a line `check M N V` for each assertion with its verdict, and the line `end`. Arguments
+/// are numbered from 1, and so are assertions, within their modules.
 ///
 /// After want of memory `out` is as before.
 pub fn render_table(
     alloc: Global,
     number: u64,
     rows: &[PlainRow],
+    checks: &[Check],
+    verdicts: &[Verdict],
     out: &mut Vec<u8>,
 ) -> Result<(), AllocError>
     requires { All IsNarrow rows.now }
-    ensures ok { OnOk result (out.new.items ≡ out.old.items ++ block_text number rows.now) }
+    ensures ok { OnOk result (out.new.items ≡ out.old.items ++ block_text number rows.now checks.now verdicts.now) }
     ensures err { OnErr result (out.new.items ≡ out.old.items) }
 {
     let texts = texts(alloc, rows)?;
-    render_texts(alloc, number, texts.as_slice(), out)
+    render_texts(alloc, number, texts.as_slice(), checks, verdicts, out)
 }

@@ -10,7 +10,7 @@ use std::alloc::{AllocError, Global};
 
 // A part of the text may have been appended after want of memory in the calls that begin with `write_`.
 
-fn write_number(number: u64, out: &mut Vec<u8>) -> Result<(), AllocError>
+pub(crate) fn write_number(number: u64, out: &mut Vec<u8>) -> Result<(), AllocError>
     ensures { OnOk result (out.new.items ≡ out.old.items ++ decimal number) }
 {
     let mut buffer = Buffer::new();
@@ -85,7 +85,11 @@ fn write_missing(word: &[u8], asked: i128, there: u64, out: &mut Vec<u8>) -> Res
     write_number(there, out)
 }
 
-fn write_edit_cause(alloc: Global, cause: &EditCause, out: &mut Vec<u8>) -> Result<(), AllocError>
+pub(crate) fn write_edit_cause(
+    alloc: Global,
+    cause: &EditCause,
+    out: &mut Vec<u8>,
+) -> Result<(), AllocError>
     ensures { OnOk result (out.new.items ≡ out.old.items ++ edit_cause_text cause.now) }
 {
     match cause {

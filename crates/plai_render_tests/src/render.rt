@@ -2,7 +2,9 @@ ghost use Rattle.std.specs.Prelude.{◌≤◌, All, IfOk};
 ghost use Rattle.plai_terms.specs.Pattern.{arity_of};
 ghost use Rattle.plai_render.specs.Order.{IsNarrow};
 
+use plai_assert::Verdict;
 use plai_base::Mask;
+use plai_clauses::{Check, CheckKind};
 use plai_render::{
     PlainRow, TextRow, distinct_names_are_apart, names_have_different_texts, render_stopped,
     render_table, render_texts, sort_rows, sort_texts,
@@ -61,7 +63,7 @@ fn empty_tables_print(rt: HostRuntime) -> Result<(), Fail> {
     distinct_names_are_apart();
     names_have_different_texts();
     let mut out = Vec::from_slice(alloc, b"> ")?;
-    render_table(alloc, 18446744073709551615, &[], &mut out)?;
+    render_table(alloc, 18446744073709551615, &[], &[], &[], &mut out)?;
     let printed = b"> edit 18446744073709551615\nend\n";
     assert_eq!(rt; out.as_slice(), printed.as_slice());
     Ok(())
@@ -73,7 +75,7 @@ fn rows_are_sorted(rt: HostRuntime) -> Result<(), Fail> {
     let mut rows = sample(alloc)?;
     sort_rows(alloc, &mut rows)?;
     let mut out = Vec::new(alloc);
-    render_table(alloc, 7, &rows, &mut out)?;
+    render_table(alloc, 7, &rows, &[], &[], &mut out)?;
     let printed = b"edit 7
 row k:'='/1 call t answer none
 row m:p/1 call t answer (1 t f)
@@ -98,6 +100,26 @@ fn text(alloc: Global, name: &[u8], call: &[u8], answer: &[u8]) -> Result<TextRo
     })
 }
 
+/// An assertion of the module `+`, and two of the module `m`.
+fn checks(alloc: Global) -> Result<Vec<Check>, AllocError> {
+    let mut checks = Vec::new(alloc);
+    for module in [b'+', b'm', b'm'] {
+        let pred = PredKey {
+            module: Name::new(vec![in alloc; module]?),
+            name: Name::new(Vec::new(alloc)),
+            arity: 0,
+        };
+        checks.push(Check {
+            module: pred.module.copy(alloc)?,
+            kind: CheckKind::Calls,
+            pred,
+            pre: Listed::new(Vec::new(alloc)),
+            post: Listed::new(Vec::new(alloc)),
+        })?;
+    }
+    Ok(checks)
+}
+
 #[test]
 fn texts_are_sorted(rt: HostRuntime) -> Result<(), Fail> {
     let alloc = rt.alloc();
@@ -107,11 +129,16 @@ fn texts_are_sorted(rt: HostRuntime) -> Result<(), Fail> {
     rows.push(text(alloc, b"u", b"(1 t f)", b"none")?)?;
     sort_texts(&mut rows);
     let mut out = Vec::new(alloc);
-    render_texts(alloc, 3, &rows, &mut out)?;
+    let checks = checks(alloc)?;
+    let verdicts = [Verdict::Check, Verdict::False, Verdict::Checked];
+    render_texts(alloc, 3, &rows, &checks, &verdicts, &mut out)?;
     let printed = b"edit 3
 row m:p/1 call t answer (1 t f)
 row m:u/1 call (1 t f) answer none
 row m:u/1 call t answer f
+check + 1 check
+check m 1 false
+check m 2 checked
 end
 ";
     assert_eq!(rt; out.as_slice(), printed.as_slice());

@@ -24,11 +24,13 @@ use Rattle.plai_domain.specs.Laws.{IsLawful}
 use Rattle.plai_domain.specs.Printed.{IsPrinted}
 use Rattle.plai_clauses.specs.Program.{ProgramView}
 use Rattle.plai_clauses.specs.WellFormed.{IsWellFormed}
+use Rattle.plai_assert.specs.Verdicts.{verdicts_of}
 use Rattle.plai_eval.specs.Meaning.{row_name, as_domain, as_program}
 use Rattle.plai_eval.specs.LeastTable.{answer_in, row_of, before, IsLeastTable}
 use Rattle.plai_eval.proofs.Closed.{all_in, same_up_to}
 use Rattle.plai_eval.proofs.Lawful.{lawful_at}
 use Rattle.plai_render.specs.declared.text_row.TextRow.{TextRow}
+use Rattle.plai_render.specs.declared.text_table.TextTable.{TextTable}
 use Rattle.plai_render.specs.Order.{AreApart, IsNarrow}
 use Rattle.plai_render.specs.Texts.{text_of, AreTextsOf, AreTextsInOrder}
 use Rattle.plai_rounds.specs.Names.{answers_of}
@@ -42,7 +44,7 @@ use Rattle.plai_rounds.proofs.Ends.{closed}
 use Rattle.plai_rounds.proofs.Reaching.{IsReached, reached_call}
 
 -- one more row
-read_of : {A : Type 0} (xs : List A) (i : ℕ) (x : A) → slice_get xs i ≡ Some x → (i < length xs) × (get_or xs i x ≡ x)
+pub read_of : {A : Type 0} (xs : List A) (i : ℕ) (x : A) → slice_get xs i ≡ Some x → (i < length xs) × (get_or xs i x ≡ x)
 read_of [] i x e = cc
 read_of (y ∷ xs) zero x e = let same : y ≡ x = cc in (omega arith, same)
 read_of (y ∷ xs) (suc i) x e = let (h, f) = read_of xs i x e in (omega arith, f)
@@ -175,12 +177,15 @@ module _ (p : PlainDomain) (laws : IsLawful p) (printed : IsPrinted p) (program 
         let few : length names ≤ limit = reaching.few in
         omega arith
 
-    -- the texts in order are those of the least table
-    pub text_table : (texts : List TextRow) → AreTextsInOrder (plain_rows p rows names) texts → IsTextTable p program limit texts
-    text_table texts sorted = record {
+    -- the texts in order are those of the least table, and verdicts don't depend on the order
+    pub text_table : (table : TextTable) → AreTextsInOrder (plain_rows p rows names) table.rows
+        → ((sorted : List PlainRow) → IsPermutation (plain_rows p rows names) sorted → table.verdicts ≡ verdicts_of p sorted program.checks)
+        → IsTextTable p program limit table
+    text_table table sorted told = record {
       rows = sorted.rows;
       least = least sorted.rows sorted.permutation (sorted.in_order (rows_apart names reaching.distinct reaching.reached));
       narrow = All-permutation IsNarrow (plain_rows p rows names) sorted.rows sorted.permutation (rows_narrow names reaching.reached);
       within = table_within sorted.rows sorted.permutation;
       are_texts = sorted.are_texts;
+      are_verdicts = told sorted.rows sorted.permutation;
     }

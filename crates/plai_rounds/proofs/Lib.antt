@@ -13,3 +13,4 @@ pub mod Sweeping
 pub mod Reaching
 pub mod Narrow
 pub mod LeastRows
+pub mod Seen

@@ -7,6 +7,7 @@ mod analyse_fail;
 mod analysis;
 mod change;
 mod evaluation;
+mod judged;
 mod output;
 mod present;
 mod reach;

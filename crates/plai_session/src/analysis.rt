@@ -6,16 +6,15 @@ use crate::answer::EditAnswer;
 use plai_base::Steps;
 use plai_clauses::Program;
 use plai_domain::{Domain, Work, WorkEntry};
-use plai_render::TextRow;
+use plai_render::TextTable;
 use plai_rounds::{AnalyseFail, analyse};
-use plai_terms::Listed;
 use std::alloc::{AllocError, Global};
 use std::sync::ledger::Ledger;
 
-/// What an analysis gave: the rows of the table as text, if there is one, and the answer.
+/// What an analysis gave: the table as text, if there is one, and the answer.
 #[derive(Debug, Drop)]
 pub struct Analysed {
-    pub table: Option<Listed<TextRow>>,
+    pub table: Option<TextTable>,
     pub answer: EditAnswer,
 }
 
@@ -33,8 +32,8 @@ pub fn analyse_anew<D: Domain, W: Work, L: Ledger>(
 {
     work.note(alloc, &WorkEntry::Mark(number))?;
     match analyse(alloc, domain, program, limit, work, steps) {
-        Ok(rows) => Ok(Analysed {
-            table: Some(Listed::new(rows)),
+        Ok(table) => Ok(Analysed {
+            table: Some(table),
             answer: EditAnswer::Table,
         }),
         Err(AnalyseFail::Rows(most)) => Ok(Analysed {

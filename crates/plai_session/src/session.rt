@@ -9,21 +9,20 @@ use crate::answer::EditAnswer;
 use plai_base::Steps;
 use plai_clauses::Program;
 use plai_domain::{Domain, Work};
-use plai_render::TextRow;
+use plai_render::TextTable;
 use plai_script::{Edit, EditFail, apply};
-use plai_terms::Listed;
 use std::alloc::{AllocError, Global};
 use std::marker::Model;
 use std::sync::ledger::Ledger;
 
 /// A program under edits, with its table where there is one. Contracts see the domain, the limit of rows, the program, the
-/// rows of the table as text, which is the least table of the program, and whether an edit met want of memory.
+/// table as text, which is the least table of the program with its verdicts, and whether an edit met want of memory.
 #[derive(Drop)]
 pub struct Session<D: Domain> {
     domain: D,
     limit: u64,
     program: Program,
-    table: Option<Listed<TextRow>>,
+    table: Option<TextTable>,
     lost: bool,
 }
 
@@ -151,15 +150,13 @@ impl<D: Domain> Session<D> {
         &self.program
     }
 
-    /// The rows of the program's table as text, in the order of a table. None exactly where the last accepted edit stopped, or
-    /// an edit met want of memory. It takes no memory.
-    pub fn table(&self) -> Option<&[TextRow]>
-        ensures rows { option_map (λ rows. rows.now) result ≡ self.now.table }
-        ensures least { IfSome result (λ rows. IsTableOf (D.plain self.now.domain) self.now.limit self.now.program rows.now) }
+    /// The program's table as text, its rows in the order of a table, and its verdicts on the program's assertions, one for
+    /// each in the order of [`Program::checks`]. None exactly where the last accepted edit stopped, or an edit met want of
+    /// memory. It takes no memory.
+    pub fn table(&self) -> Option<&TextTable>
+        ensures table { option_map (λ table. table.now) result ≡ self.now.table }
+        ensures least { IfSome result (λ table. IsTableOf (D.plain self.now.domain) self.now.limit self.now.program table.now) }
     {
-        match &self.table {
-            Some(rows) => Some(rows.as_slice()),
-            None => None,
-        }
+        self.table.as_ref()
     }
 }

@@ -1,3 +1,6 @@
+use Rattle.std.proofs.Common.{◌∙◌, sym, subst}
+use Rattle.plai_render.specs.Texts.{AreTextsInOrder}
+use Rattle.plai_render.specs.declared.text_table.TextTable.{TextTable}
 use Rattle.plai_rounds.specs.Names.{names_in, rows_of}
 use Rattle.plai_rounds.specs.Output.{plain_rows}
 use Rattle.plai_rounds.specs.Reaching.{IsDone}
@@ -18,6 +21,12 @@ text_table-requires-clause-done g c =
     let value_of = g.D.Domain.value_of in
     settled_done p c.args.program.now c.args.limit _ value_of c.in_ok-rows.rows.entries (rows_of value_of p c.settle.new.rows.entries) c.in_ok-rows.ensures.whole c.in_ok-settle.ensures.settled
 
+pub judge-requires-clause-done : goal.judge-requires-clause-done
+judge-requires-clause-done g c =
+    let p = g.D.Domain.plain c.args.domain.now in
+    let value_of = g.D.Domain.value_of in
+    settled_done p c.args.program.now c.args.limit _ value_of c.in_ok-rows.rows.entries (rows_of value_of p c.settle.new.rows.entries) c.in_ok-rows.ensures.whole c.in_ok-settle.ensures.settled
+
 pub returns-clause-table : goal.returns-clause-table
 returns-clause-table g c =
     let p = g.D.Domain.plain c.args.domain.now in
@@ -31,7 +40,10 @@ returns-clause-table g c =
     let reaching = c.in_ok-reached.ensures.reaching in
     let calls = c.in_ok-reached.ensures.calls in
     let done : IsDone p program c.args.limit rows = settled_done p program c.args.limit _ value_of c.in_ok-rows.rows.entries rows c.in_ok-rows.ensures.whole c.in_ok-settle.ensures.settled in
-    text_table p laws printed program good c.args.limit rows done names reaching calls c.sort_texts.new.rows.items (c.sort_texts.ensures.in_order (plain_rows p rows names) c.in_ok-table.ensures)
+    let table : TextTable = record { rows = c.new.result; verdicts = c.new-2.result } in
+    text_table p laws printed program good c.args.limit rows done names reaching calls table
+    (subst (AreTextsInOrder (plain_rows p rows names)) (sym c.new.ensures) (c.sort_texts.ensures.in_order (plain_rows p rows names) c.in_ok-table.ensures))
+    (λ sorted moved. c.new-2.ensures ∙ c.in_ok-verdicts.ensures ∙ c.verdicts_need_no_order.ensures c.args.domain.now (plain_rows p rows names) sorted program.checks moved)
 
 pub returns-clause-not_over : goal.returns-clause-not_over
 returns-clause-not_over g c =
