@@ -32,6 +32,7 @@ check sort.table 0 /dev/null sort.pl lists.pl
 check rows.table 1 /dev/null --rows 2 sort.pl lists.pl
 check findall.table 3 /dev/null findall.pl
 check edits.table 1 sort.edits sort.pl lists.pl
+check made.table 0 /dev/null --make 50
 
 for file in *.pl *.table *.edits; do
   if ! cmp -s "$file" "../crates/plai_examples/data/$file"; then

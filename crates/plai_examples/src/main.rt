@@ -113,5 +113,6 @@ fn main(rt: HostRuntime) -> io::Result<()> {
         "sort.edits",
         "edits.table",
         1,
-    )
+    )?;
+    tell(&rt, &["--make", "50"], b"", "made.table", 0)
 }

@@ -1,65 +1,81 @@
-//! The text of the program.
-ghost use Rattle.std.specs.Prelude.{◌≡◌, ◌<◌, ◌^◌, ◌++◌, OnOk, IfOk};
-ghost use Rattle.plai_make.specs.Texts.{pred_text, fact_text, rule_text, clauses_text, program_text};
+//! The program.
+ghost use Rattle.std.specs.Prelude.{◌≡◌, ◌<◌, ◌^◌, OnOk, IfOk};
+ghost use Rattle.plai_make.specs.Programs.{HasHome, beginning, with_fact, with_rule, with_clauses, made_program};
 
+use crate::clauses::{entry, fact, home, home_name, rule};
 use crate::draws::{chosen, following};
-use itoa::Buffer;
+use plai_clauses::Program;
 use std::alloc::{AllocError, Global};
 
-pub(crate) fn write_pred(number: u32, out: &mut Vec<u8>) -> Result<(), AllocError>
-    ensures { OnOk result (out.new.items ≡ out.old.items ++ pred_text number) }
+/// The module and its entry.
+fn beginning(alloc: Global) -> Result<Program, AllocError>
+    ensures { IfOk result (λ program. program ≡ beginning) }
 {
-    out.push(b'p')?;
-    let mut buffer = Buffer::new();
-    out.extend_from_slice(buffer.format(number).as_bytes())
+    let mut program = Program::new(alloc);
+    program.add_module(alloc, home(alloc)?)?;
+    program.add_entry(alloc, entry(alloc)?)?;
+    Ok(program)
 }
 
-pub(crate) fn write_fact(number: u32, out: &mut Vec<u8>) -> Result<(), AllocError>
-    ensures { OnOk result (out.new.items ≡ out.old.items ++ fact_text number) }
+fn add_fact(alloc: Global, number: u32, program: &mut Program) -> Result<(), AllocError>
+    requires { HasHome program.old }
+    ensures { OnOk result (program.new ≡ with_fact program.old number) }
 {
-    write_pred(number, out)?;
-    out.extend_from_slice(b"(f(X),X)")
+    program.add_clause(alloc, &home_name(alloc)?, fact(alloc, number)?)
 }
 
-fn write_rule(number: u32, first: u32, second: u32, out: &mut Vec<u8>) -> Result<(), AllocError>
-    ensures { OnOk result (out.new.items ≡ out.old.items ++ rule_text number first second) }
+fn add_rule(
+    alloc: Global,
+    number: u32,
+    first: u32,
+    second: u32,
+    program: &mut Program,
+) -> Result<(), AllocError>
+    requires { HasHome program.old }
+    ensures { OnOk result (program.new ≡ with_rule program.old number first second) }
 {
-    write_pred(number, out)?;
-    out.extend_from_slice(b"(X,Y) :- ")?;
-    write_pred(first, out)?;
-    out.extend_from_slice(b"(X,Z), ")?;
-    write_pred(second, out)?;
-    out.extend_from_slice(b"(Z,Y)")
+    program.add_clause(
+        alloc,
+        &home_name(alloc)?,
+        rule(alloc, number, first, second)?,
+    )
 }
 
-fn write_clauses(number: u32, first: u32, second: u32, out: &mut Vec<u8>) -> Result<(), AllocError>
-    ensures { OnOk result (out.new.items ≡ out.old.items ++ clauses_text number first second) }
+/// Puts the clauses of a predicate last, whose rule has goals of these predicates.
+fn add_pred(
+    alloc: Global,
+    number: u32,
+    first: u32,
+    second: u32,
+    program: &mut Program,
+) -> Result<(), AllocError>
+    requires { HasHome program.old }
+    ensures { OnOk result (program.new ≡ with_clauses program.old number first second) }
 {
-    write_fact(number, out)?;
-    out.extend_from_slice(b".\n")?;
-    write_rule(number, first, second, out)?;
-    out.extend_from_slice(b".\n")
+    add_fact(alloc, number, program)?;
+    add_rule(alloc, number, first, second, program)
 }
 
-/// The text of a file that defines the module `g`, with so many predicates `p0`, `p1`, .. of two arguments, from 1 to
-/// 2,147,483,647. Each has a fact and a rule with two goals, whose predicates are drawn. The entry is `p0(X,Y)`, X ground.
-pub fn made_program(alloc: Global, count: u32) -> Result<Vec<u8>, AllocError>
+/// A program of the module `g`, with so many predicates `p0`, `p1`, .. of two arguments, from 1 to 2,147,483,647. Each has a
+/// fact and a rule with two goals, whose predicates are drawn. The entry is `p0(X,Y)`, X ground.
+pub fn made_program(alloc: Global, count: u32) -> Result<Program, AllocError>
     requires some { 0 < count }
     requires few { count < 2 ^ 31 }
-    ensures { IfOk result (λ text. text.items ≡ program_text count) }
+    ensures { IfOk result (λ program. program ≡ made_program count) }
 {
-    let mut text = Vec::from_slice(alloc, b":- module(g,[]).\n:- entry p0(X,Y) : ground(X).\n")?;
+    let mut program = beginning(alloc)?;
     let mut state = count;
     for number in 0..count {
         let first = following(state);
         let second = following(first);
-        write_clauses(
+        add_pred(
+            alloc,
             number,
             chosen(first, count),
             chosen(second, count),
-            &mut text,
+            &mut program,
         )?;
         state = second;
     }
-    Ok(text)
+    Ok(program)
 }

@@ -1,5 +1,5 @@
 -- From the phases of a call to its outcomes.
-use Rattle.std.proofs.Common.{◌≡◌, ◌≢◌, ◌⊎◌, ℕ, List, [], None, Some, Ok, Err, IfSome, IfOk, IfErr, MatchResult, map, Vec, false, refl, ap, ◌∙◌, sym, subst, inl, inr}
+use Rattle.std.proofs.Common.{◌≡◌, ◌≢◌, ◌⊎◌, ℕ, List, [], None, Some, Ok, Err, IfSome, IfOk, IfErr, MatchResult, map, Vec, refl, ap, ◌∙◌, sym, subst, inl, inr}
 use Rattle.std.specs.declared.alloc.Global.{Global}
 use Rattle.std.specs.declared.option.Option.{Option}
 use Rattle.std.specs.declared.result.Result.{Result}
@@ -8,12 +8,13 @@ use Rattle.plai_clauses.specs.Program.{ProgramView}
 use Rattle.plai_modules.specs.Loading.{loaded}
 use Rattle.plai_modules.specs.declared.named_text.NamedText.{NamedText}
 use Rattle.plai_words.specs.declared.types.Settings.{Settings}
-use Rattle.plai_top.specs.Commands.{IsCommand}
-use Rattle.plai_top.specs.Files.{texts_of, AreShort, IsSomeLong, is_built_program, HasFiles}
+use Rattle.plai_make.specs.Programs.{made_program, made_edits}
+use Rattle.plai_top.specs.Commands.{IsCommand, IsMake}
+use Rattle.plai_top.specs.Files.{texts_of, AreShort, IsSomeLong, HasFiles, HasProgram}
 use Rattle.plai_top.specs.Loadings.{IsLoading, IsPrepared}
-use Rattle.plai_top.specs.Outcome.{Outcome, silent, line, refused_by, IsByWords, IsEarly, by_words, too_long, refused, unbuilt, IsLoaded, IsByScript, IsOutcome, early, by_script}
+use Rattle.plai_top.specs.Outcome.{Outcome, silent, line, refused_by, IsByWords, IsEarly, by_words, too_long, refused, IsAsked, by_files, by_make, IsByScript, IsOutcome, early, by_script}
 use Rattle.plai_top.specs.Outputs.{KeepsWords}
-use Rattle.plai_top.specs.Plans.{IsPlan, IsScripted, KeepsEarly}
+use Rattle.plai_top.specs.Plans.{IsPlan, IsMadePlan, IsScripted, KeepsEarly}
 use Rattle.plai_top.specs.Stops.{status_of, IsReadEnd}
 use Rattle.plai_top.specs.Tasks.{task_of}
 use Rattle.plai_top.specs.declared.task.Task.{Task}
@@ -24,8 +25,9 @@ use Rattle.plai_top.specs.declared.plan.Plan.{Plan}
 use Rattle.plai_top.specs.declared.plan.Plan.TheVariants.{Line, Blocks}
 use Rattle.plai_top.specs.declared.stop.Stop.{Stop}
 use Rattle.plai_top.specs.declared.plan.Prepared.{Prepared}
-use Rattle.plai_top.specs.declared.stop.Stop.TheVariants.{TooLarge, ReadFault, Memory, NotBuilt}
-use Rattle.plai_top.proofs.Outcomes.{words_are_one, not_by_words, early_is_one, program_not_early}
+use Rattle.plai_top.specs.declared.stop.Stop.TheVariants.{TooLarge, ReadFault, Memory}
+use Rattle.plai_top.proofs.Endings.{no_word_fault}
+use Rattle.plai_top.proofs.Outcomes.{words_are_one, not_by_words, made_not_by_words, made_not_early, early_is_one, program_not_early}
 
 -- ---- the words
 
@@ -67,19 +69,17 @@ module _ (words : List (List ℕ)) (settings : Settings) (command : IsCommand wo
   module _ (names texts : List (List ℕ)) (are_names : names ≡ settings.files) where
     program_decides : (told : Option TextMap) (stop : Stop) → IfSome told (λ files. texts ≡ texts_of files settings.files)
         → IfSome told (λ files. AreShort files settings.files)
-        → (stop ≡ Memory) ⊎ ((stop ≡ NotBuilt) × ((program : ProgramView) × (loaded texts ≡ Ok program) × (is_built_program program ≡ false)))
+        → stop ≡ Memory
         → IfSome told (λ files. IsReadEnd stop ⊎ IsEarly words files (silent (status_of stop)))
     program_decides None stop are short decides = tt
-    program_decides (Some files) stop are short (inl memory) = inl (inr memory)
-    program_decides (Some files) stop are short (inr (is, (program, loads, fails))) =
-        inr (rw is (unbuilt settings program (record { given = record { command = command; short = short }; loads = sym (ap loaded are) ∙ loads }) fails))
+    program_decides (Some files) stop are short memory = inl (inr memory)
 
     program_prepares : (told : Option TextMap) (loading : Loading) → IfSome told (λ files. texts ≡ texts_of files settings.files)
         → IfSome told (λ files. AreShort files settings.files) → IsLoading names texts loading
         → IfSome told (λ files. IsPrepared words files (task_of settings) loading)
     program_prepares None loading are short loads = tt
-    program_prepares (Some files) (Program program) are short (loads, holds) =
-        (settings, refl, record { given = record { command = command; short = short }; loads = sym (ap loaded are) ∙ loads }, holds)
+    program_prepares (Some files) (Program program) are short loads =
+        (settings, refl, record { given = record { command = command; short = short }; loads = sym (ap loaded are) ∙ loads })
     program_prepares (Some files) (Refused line) are short (refusal, loads, is) =
         let has : HasFiles words files settings = record { command = command; short = short } in
         let same : refused_by settings.files refusal ≡ record { status = 3; bytes = line.items } = ap (λ ns. refused_by ns refusal) (sym are_names) ∙ is in
@@ -100,8 +100,7 @@ module _ (words : List (List ℕ)) (settings : Settings) (command : IsCommand wo
     own_short = subst (λ ns. IfSome told (λ files. AreShort files ns)) same short
 
     -- loading stops the call
-    pub loading_decides : (stop : Stop)
-        → (stop ≡ Memory) ⊎ ((stop ≡ NotBuilt) × ((program : ProgramView) × (loaded (map (λ f. f.text) given) ≡ Ok program) × (is_built_program program ≡ false)))
+    pub loading_decides : (stop : Stop) → stop ≡ Memory
         → IfSome told (λ files. IsReadEnd stop ⊎ IsEarly words files (silent (status_of stop)))
     loading_decides stop decides = program_decides (map (λ f. f.name) given) (map (λ f. f.text) given) own_names told stop own_texts own_short decides
 
@@ -144,22 +143,22 @@ module _ (words : List (List ℕ)) (task : Task) (program : ProgramView) where
       → IfBothTold told left (λ files text. MatchResult result (IsPlan words files text) (λ stop. IsReadEnd stop ⊎ IsOutcome words files text (silent (status_of stop))))
   script_plan None left result prepared made = tt
   script_plan (Some files) None result prepared made = tt
-  script_plan (Some files) (Some text) (Ok (Line bytes)) (settings, same, has, holds) made = by_script settings program _ (record { loaded = has; built = holds }) made
-  script_plan (Some files) (Some text) (Ok (Blocks own loaded items)) (settings, same, has, holds) (is_task, is_program, edits) =
-      (settings, same ∙ sym is_task, subst (IsLoaded words files settings) (sym is_program) (record { loaded = has; built = holds }), edits)
+  script_plan (Some files) (Some text) (Ok (Line bytes)) (settings, same, has) made = by_script settings program _ has made
+  script_plan (Some files) (Some text) (Ok (Blocks own loaded items)) (settings, same, has) (is_task, is_program, edits) =
+      (settings, same ∙ sym is_task, subst (λ g. IsAsked words files text settings g items.items) (sym is_program) (by_files program items.items has edits))
   script_plan (Some files) (Some text) (Err stop) prepared (inl read) = inl read
-  script_plan (Some files) (Some text) (Err stop) (settings, same, has, holds) (inr is) = inr (by_script settings program _ (record { loaded = has; built = holds }) is)
+  script_plan (Some files) (Some text) (Err stop) (settings, same, has) (inr is) = inr (by_script settings program _ has is)
 
   -- nothing is decided early
   pub program_keeps_early : (told : Option TextMap) (result : Result Plan Stop) (P : Type 0)
       → IfSome told (λ files. IsPrepared words files task (Program program)) → IfSome told (λ files. KeepsEarly words files result P)
   program_keeps_early None result P prepared = tt
-  program_keeps_early (Some files) result P (settings, same, has, holds) = λ outcome is. absurd (program_not_early words files settings program has holds outcome is)
+  program_keeps_early (Some files) result P (settings, same, has) = λ outcome is. absurd (program_not_early words files settings program has outcome is)
 
   pub program_unread : (told : Option TextMap) (P : Type 0) → IfSome told (λ files. IsPrepared words files task (Program program))
       → IfSome told (λ files. (outcome : Outcome) → IsEarly words files outcome → P)
   program_unread None P prepared = tt
-  program_unread (Some files) P (settings, same, has, holds) = λ outcome is. absurd (program_not_early words files settings program has holds outcome is)
+  program_unread (Some files) P (settings, same, has) = λ outcome is. absurd (program_not_early words files settings program has outcome is)
 
 pub line_keeps_early : (words : List (List ℕ)) (told : Option TextMap) (bytes : Vec ℕ Global) (P : Type 0) → IfSome told (λ files. IsEarly words files (line bytes.items))
     → IfSome told (λ files. KeepsEarly words files (Ok (Line bytes)) P)
@@ -173,3 +172,33 @@ stop_keeps_early words None stop P ends failed = tt
 stop_keeps_early words (Some files) stop P (inl (inl fault)) failed = λ outcome other. inr (inl (fault, failed fault))
 stop_keeps_early words (Some files) stop P (inl (inr memory)) failed = λ outcome other. inr (inr memory)
 stop_keeps_early words (Some files) stop P (inr is) failed = λ outcome other. inl (early_is_one words files _ outcome is other)
+
+-- ---- a made program
+
+module _ (words : List (List ℕ)) (settings : Settings) (count : ℕ) (make : IsMake words settings count) where
+  pub made_outcome : (told : Option TextMap) (left : Option (List ℕ)) (result : Result Plan Stop) → MatchResult result (IsMadePlan settings count) (λ stop. stop ≡ Memory)
+      → IfBothTold told left (λ files text. MatchResult result (IsPlan words files text) (λ stop. IsReadEnd stop ⊎ IsOutcome words files text (silent (status_of stop))))
+  made_outcome None left result is = tt
+  made_outcome (Some files) None result is = tt
+  made_outcome (Some files) (Some text) (Ok (Line bytes)) is = absurd is
+  made_outcome (Some files) (Some text) (Ok (Blocks task program items)) (is_task, is_program, are_items) = (
+    settings,
+    sym is_task,
+    subst (IsAsked words files text settings program) (sym are_items)
+        (subst (λ g. IsAsked words files text settings g (made_edits count)) (sym is_program) (by_make count make)),
+  )
+  made_outcome (Some files) (Some text) (Err stop) memory = inl (inr memory)
+
+  pub made_keeps_early : (told : Option TextMap) (result : Result Plan Stop) (P : Type 0) → IfSome told (λ files. KeepsEarly words files result P)
+  made_keeps_early None result P = tt
+  made_keeps_early (Some files) result P = λ outcome is. absurd (made_not_early words files settings count make outcome is)
+
+  pub made_keeps_words : (A : Type 0) (result : Result A Stop) → KeepsWords {A = A} words result
+  made_keeps_words A result outcome is = absurd (made_not_by_words words settings count make outcome is)
+
+-- ---- words that decide
+
+-- they decide no fault
+pub words_never_fail : (words : List (List ℕ)) (stop : Stop) → (stop ≡ Memory) ⊎ IsByWords words (silent (status_of stop)) → stop ≡ ReadFault → ⊥
+words_never_fail words stop (inl memory) fault = let e : Memory ≡ ReadFault = sym memory ∙ fault in cc
+words_never_fail words stop (inr by) fault = no_word_fault words (silent (status_of stop)) by (ap status_of fault)

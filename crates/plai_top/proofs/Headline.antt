@@ -3,6 +3,7 @@ use Rattle.std.proofs.Common.{◌≡◌, ◌≤◌, ◌⊎◌, ℕ, ◌+◌, Lis
 use Rattle.std.proofs.lemmas.List.Elements.{All-head, All-tail}
 use Rattle.std.specs.declared.option.Option.{Option}
 use Rattle.plai_base.specs.Texts.{TextMap}
+use Rattle.plai_theory.specs.Words.{IsIn}
 use Rattle.plai_terms.specs.declared.term.Term.{Term}
 use Rattle.plai_terms.specs.declared.pred_key.PredKey.{PredKey}
 use Rattle.plai_terms.specs.declared.plain_row.PlainRow.{PlainRow}
@@ -11,14 +12,16 @@ use Rattle.plai_domain.specs.Laws.{IsLawful}
 use Rattle.plai_domain.specs.Soundness.{IsSound}
 use Rattle.plai_clauses.specs.Program.{ProgramView}
 use Rattle.plai_clauses.specs.WellFormed.{IsWellFormed}
+use Rattle.plai_clauses.specs.declared.check.Check.{Check}
 use Rattle.plai_clauses.specs.declared.edit_cause.EditCause.{EditCause}
 use Rattle.plai_session.specs.Programs.{behind}
+use Rattle.plai_assert.specs.Verdicts.{verdict_of, verdicts_of}
 use Rattle.plai_eval.specs.LeastTable.{IsLeastTable}
 use Rattle.plai_sld.specs.declared.item.Item.{Item}
 use Rattle.plai_sld.specs.declared.item.Item.TheVariants.{Call, Mark}
 use Rattle.plai_sld.specs.Runs.{RunState}
 use Rattle.plai_sld.specs.Described.{IsFrontDescribed, AreRunsDescribed}
-use Rattle.plai_sld.specs.Verdicts.{IsReached, IsCalled, IsAnswered}
+use Rattle.plai_sld.specs.Verdicts.{IsReached, IsCalled, IsAnswered, IsKeptByRuns}
 use Rattle.plai_pos_laws.specs.Groundness.{groundness}
 use Rattle.plai_share_laws.specs.Sharing.{sharing}
 use Rattle.plai_depth_laws.specs.DepthK.{depth_k}
@@ -27,7 +30,8 @@ use Rattle.plai_words.specs.declared.types.DomainName.{DomainName}
 use Rattle.plai_words.specs.declared.types.DomainName.TheVariants.{Ground, Share, Depth}
 use Rattle.plai_top.specs.Headline.{IsCallPrinted, IsAnswerPrinted, IsPromised, IsPromisedBlock, ArePromised, TakesPromised}
 use Rattle.plai_top.specs.Tasks.{domain_named, domain_of}
-use Rattle.plai_top.specs.Blocks.{Block, IsBlockOf, is_table_of, many_rows, large_sets, is_refused, AreBlocksOf, no_more, one_more}
+use Rattle.std.specs.Io.KnownBytes.{Appends}
+use Rattle.plai_top.specs.Blocks.{Block, texts_from, IsBlockOf, is_table_of, many_rows, large_sets, is_refused, AreBlocksOf, no_more, one_more}
 use Rattle.plai_top.specs.Plans.{IsPlan, IsFitPlan, CarriesOut}
 use Rattle.plai_top.specs.Stops.{status_of}
 use Rattle.plai_top.specs.Told.{IfBothTold}
@@ -35,26 +39,33 @@ use Rattle.plai_top.specs.Writing.{AreFormed}
 use Rattle.plai_top.specs.declared.plan.Plan.{Plan}
 use Rattle.plai_top.specs.declared.plan.Plan.TheVariants.{Line, Blocks}
 use Rattle.plai_top.specs.declared.stop.Stop.{Stop}
-use Rattle.plai_top.specs.declared.stop.Stop.TheVariants.{NoCommand, TooLarge, ReadFault, WriteFault, Memory, NotBuilt}
+use Rattle.plai_top.specs.declared.stop.Stop.TheVariants.{NoCommand, TooLarge, ReadFault, WriteFault, Memory}
 use Rattle.plai_top.specs.declared.task.Task.{Task}
 use Rattle.plai_top.proofs.Printed.{row_is_printed}
 
+-- each verdict keeps its promise
+abbrev pub VerdictsKept : PlainDomain → ProgramView → List PlainRow → Type 0
+VerdictsKept p program rows = (check : Check) → IsIn check program.checks → IsKeptByRuns p program check (verdict_of p rows check)
+
 -- rows that describe all runs, in a block
 module _ (p : PlainDomain) (program : ProgramView) (rows : List PlainRow) (described : AreRunsDescribed p program rows) (number : ℕ) where
+  abbrev own_text : List ℕ
+  own_text = block_text number rows program.checks (verdicts_of p rows program.checks)
+
   front_described : (state : RunState) → IsReached p program state → (items : List Item) → state.items ≡ items → IsFrontDescribed p rows items
   front_described state (pred, args, goal, choices, run) items e = subst (IsFrontDescribed p rows) e (described pred args goal choices state run)
 
-  call_printed : (pred : PredKey) (args : List Term) → IsCalled p program pred args → IsCallPrinted p (block_text number rows) pred args
+  call_printed : (pred : PredKey) (args : List Term) → IsCalled p program pred args → IsCallPrinted p own_text pred args
   call_printed pred args (state, reached, rest, e) =
-      let (row, i, is, told) = front_described state reached (Call pred args ∷ rest) e in (row, row_is_printed rows row i number, is, told)
+      let (row, i, is, told) = front_described state reached (Call pred args ∷ rest) e in (row, row_is_printed rows row i number program.checks (verdicts_of p rows program.checks), is, told)
 
-  answer_printed : (pred : PredKey) (was now : List Term) → IsAnswered p program pred was now → IsAnswerPrinted p (block_text number rows) pred was now
+  answer_printed : (pred : PredKey) (was now : List Term) → IsAnswered p program pred was now → IsAnswerPrinted p own_text pred was now
   answer_printed pred was now (state, reached, rest, e) =
       let (row, i, is, called, answer, has, told) = front_described state reached (Mark pred was now ∷ rest) e in
-      (row, row_is_printed rows row i number, is, called, answer, has, told)
+      (row, row_is_printed rows row i number program.checks (verdicts_of p rows program.checks), is, called, answer, has, told)
 
-  block_promised : IsLeastTable p program rows → IsPromised p program number (block_text number rows)
-  block_promised least = record { rows = rows; least = least; written = refl; described = record { calls = call_printed; answers = answer_printed } }
+  block_promised : IsLeastTable p program rows → VerdictsKept p program rows → IsPromised p program number own_text
+  block_promised least kept = record { rows = rows; least = least; written = refl; described = record { calls = call_printed; answers = answer_printed }; kept = kept }
 
 -- the laws of the domains of tasks
 abbrev pub LawsHold : Type 0
@@ -65,6 +76,11 @@ abbrev pub LeastDescribes : Type 0
 LeastDescribes = (task : Task) → IsLawful (domain_of task) → IsSound (domain_of task) → (program : ProgramView) → IsWellFormed program
     → (rows : List PlainRow) → IsLeastTable (domain_of task) program rows → AreRunsDescribed (domain_of task) program rows
 
+-- and its verdicts keep their promises
+abbrev pub LeastKeeps : Type 0
+LeastKeeps = (task : Task) → IsLawful (domain_of task) → IsSound (domain_of task) → (program : ProgramView) → IsWellFormed program
+    → (rows : List PlainRow) → IsLeastTable (domain_of task) program rows → VerdictsKept (domain_of task) program rows
+
 pub laws_hold : IsLawful groundness × IsSound groundness → IsLawful sharing × IsSound sharing
     → ((k : ℕ) → 1 ≤ k → IsLawful (depth_k k) × IsSound (depth_k k)) → LawsHold
 laws_hold ground share depth task least = by_name task.domain
@@ -74,19 +90,21 @@ laws_hold ground share depth task least = by_name task.domain
     by_name Share = share
     by_name Depth = depth task.depth least
 
-module _ (laws : LawsHold) (describes : LeastDescribes) where
+module _ (laws : LawsHold) (describes : LeastDescribes) (keeps : LeastKeeps) where
   pub table_promised : (task : Task) → 1 ≤ task.depth → (program : ProgramView) → IsWellFormed program → (rows : List PlainRow)
-      → IsLeastTable (domain_of task) program rows → (number : ℕ) → IsPromised (domain_of task) program number (block_text number rows)
+      → IsLeastTable (domain_of task) program rows → (number : ℕ)
+      → IsPromised (domain_of task) program number (block_text number rows program.checks (verdicts_of (domain_of task) rows program.checks))
   table_promised task deep program formed rows least number =
       let both = laws task deep in
-      block_promised (domain_of task) program rows (describes task both.0 both.1 program formed rows least) number least
+      block_promised (domain_of task) program rows (describes task both.0 both.1 program formed rows least) number least (keeps task both.0 both.1 program formed rows least)
 
 -- ---- blocks that were written
 
 -- what the law says of tables
 abbrev pub TablesPromise : Type 0
 TablesPromise = (task : Task) → 1 ≤ task.depth → (program : ProgramView) → IsWellFormed program → (rows : List PlainRow)
-    → IsLeastTable (domain_of task) program rows → (number : ℕ) → IsPromised (domain_of task) program number (block_text number rows)
+    → IsLeastTable (domain_of task) program rows → (number : ℕ)
+    → IsPromised (domain_of task) program number (block_text number rows program.checks (verdicts_of (domain_of task) rows program.checks))
 
 module _ (promise : TablesPromise) (task : Task) (deep : 1 ≤ task.depth) (limit : ℕ) where
   one_promised : (number : ℕ) (given : Result ProgramView EditCause) (block : Block) → IfOk given IsWellFormed → IsBlockOf (domain_of task) limit given block
@@ -112,7 +130,7 @@ module _ (promise : TablesPromise) (words : List (List ℕ)) (before after : Opt
       not_three : (n : ℕ) → n ≡ 3 → (n ≡ 0) ⊎ (n ≡ 1) → ⊥
       not_three n three (inl none) = omega arith
       not_three n three (inr one) = omega arith
-  carried_promised files script (Blocks task program items) status (settings, same, loaded, has) (deep, shallow, readable) written done =
+  carried_promised files script (Blocks task program items) status (settings, same, asked) (deep, shallow, readable) written done =
       let promised : ArePromised (domain_of task) 0 (Ok program ∷ behind program items.items) written.blocks =
       all_promised promise task deep task.rows 0 (Ok program ∷ behind program items.items) written.blocks written.formed written.are in
       record {
@@ -120,10 +138,9 @@ module _ (promise : TablesPromise) (words : List (List ℕ)) (before after : Opt
         program = program;
         items = items.items;
         blocks = written.blocks;
-        loaded = loaded;
-        edits = has;
+        asked = asked;
         are = subst (λ t. AreBlocksOf (domain_of t) t.rows (Ok program ∷ behind program items.items) written.blocks) (sym same) written.are;
-        taken = written.bytes;
+        taken = subst (λ t. Appends before after (texts_from t.form 0 written.blocks)) (sym same) written.bytes;
         promised = subst (λ t. ArePromised (domain_of t) 0 (Ok program ∷ behind program items.items) written.blocks) (sym same) promised;
       }
 
@@ -141,7 +158,6 @@ never_done TooLarge done = elim done [ inl e ↦ omega arith | inr e ↦ omega a
 never_done ReadFault done = elim done [ inl e ↦ omega arith | inr e ↦ omega arith ]
 never_done WriteFault done = elim done [ inl e ↦ omega arith | inr e ↦ omega arith ]
 never_done Memory done = elim done [ inl e ↦ omega arith | inr e ↦ omega arith ]
-never_done NotBuilt done = elim done [ inl e ↦ omega arith | inr e ↦ omega arith ]
 
 pub stop_promises : (told : Option TextMap) (left : Option (List ℕ)) (stop : Stop) (P : TextMap → List ℕ → Type 0)
     → IfBothTold told left (λ files text. (status_of stop ≡ 0) ⊎ (status_of stop ≡ 1) → P files text)

@@ -2,6 +2,7 @@ mod Answering
 mod Deciding
 mod Endings
 mod Headline
+mod Made
 mod Opened
 mod Outcomes
 mod Printed

@@ -3,7 +3,9 @@ use Rattle.std.proofs.Common.{◌≡◌, ℕ, List, [], ◌∷◌, ◌++◌, map
 use Rattle.plai_theory.specs.Words.{IsIn}
 use Rattle.plai_terms.specs.declared.plain_row.PlainRow.{PlainRow}
 use Rattle.plai_render.specs.declared.text_row.TextRow.{TextRow}
-use Rattle.plai_render.specs.Block.{pred_text, row_text, block_text}
+use Rattle.plai_clauses.specs.declared.check.Check.{Check}
+use Rattle.plai_assert.specs.declared.verdict.Verdict.{Verdict}
+use Rattle.plai_render.specs.Block.{pred_text, row_text, checks_text, block_text}
 use Rattle.plai_render.specs.Texts.{text_of}
 use Rattle.plai_top.specs.Headline.{IsPrinted}
 
@@ -39,10 +41,12 @@ has_line (x ∷ xs) row (inr h) head rest =
     let (before, after, is) = has_line xs row h (head ++ end_of_line ++ line (text_of x)) rest in
     (before, after, other_line head (line (text_of x)) (lines xs) rest ∙ is)
 
-pub row_is_printed : (rows : List PlainRow) (row : PlainRow) → IsIn row rows → (number : ℕ) → IsPrinted (block_text number rows) row
-row_is_printed rows row h number =
+pub row_is_printed : (rows : List PlainRow) (row : PlainRow) → IsIn row rows → (number : ℕ) (checks : List Check) (verdicts : List Verdict)
+    → IsPrinted (block_text number rows checks verdicts) row
+row_is_printed rows row h number checks verdicts =
     let head : List ℕ = codes "edit " ++ decimal number in
-    let block : (head ++ end_of_line) ++ lines rows ++ codes "end" ++ end_of_line ≡ (head ++ end_of_line) ++ lines rows ++ (codes "end" ++ end_of_line) =
-    append_assoc ((head ++ end_of_line) ++ lines rows) (codes "end") end_of_line in
-    let (before, after, is) = has_line rows row h head (codes "end" ++ end_of_line) in
+    let told : List ℕ = checks_text checks verdicts in
+    let block : (head ++ end_of_line) ++ lines rows ++ told ++ codes "end" ++ end_of_line ≡ (head ++ end_of_line) ++ lines rows ++ (told ++ (codes "end" ++ end_of_line)) =
+    append_assoc ((head ++ end_of_line) ++ lines rows ++ told) (codes "end") end_of_line ∙ append_assoc ((head ++ end_of_line) ++ lines rows) told (codes "end" ++ end_of_line) in
+    let (before, after, is) = has_line rows row h head (told ++ (codes "end" ++ end_of_line)) in
     (before, after, block ∙ is)

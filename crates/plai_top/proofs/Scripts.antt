@@ -1,26 +1,14 @@
 -- What a script's text decides.
-use Rattle.std.proofs.Common.{◌≡◌, ◌⊎◌, ◌<◌, ◌≤◌, ℕ, List, false, None, Some, Result, Ok, Err, IfSome, IfOk, IfErr, length, sym, subst, inl, inr}
+use Rattle.std.proofs.Common.{◌≡◌, ◌⊎◌, ◌<◌, ◌≤◌, ℕ, List, None, Some, Err, IfSome, length, sym, subst, inl, inr}
 use Rattle.std.specs.declared.option.Option.{Option}
-use Rattle.plai_clauses.specs.declared.edit_cause.EditCause.{EditCause}
-use Rattle.plai_script.specs.Checks.{is_without_checks}
 use Rattle.plai_script.specs.Scripts.{ScriptRefusal, script_of}
-use Rattle.plai_script.specs.declared.edit.Edit.{Edit}
-use Rattle.plai_top.specs.Outcome.{line, silent, longest_script, IsByScript, script_too_long, script_refused, script_unbuilt}
+use Rattle.plai_top.specs.Outcome.{line, silent, longest_script, IsByScript, script_too_long, script_refused}
 use Rattle.plai_top.specs.Refusal.{script_refusal_text}
-use Rattle.plai_top.specs.Scripts.{IsScriptOf}
 use Rattle.plai_top.specs.Stops.{status_of, IsReadEnd}
-use Rattle.plai_top.specs.declared.script.Script.{Script}
 use Rattle.plai_top.specs.declared.stop.Stop.{Stop}
-use Rattle.plai_top.specs.declared.stop.Stop.TheVariants.{TooLarge, Memory, NotBuilt}
+use Rattle.plai_top.specs.declared.stop.Stop.TheVariants.{TooLarge}
 
 module _ (text : List ℕ) (short : length text ≤ longest_script) where
-  -- an edit of a check
-  pub unbuilt_stop : (items : List (Result Edit EditCause)) (result : Result Script Stop) → script_of text ≡ Ok items
-      → IfErr result (λ stop. (stop ≡ NotBuilt) × (is_without_checks items ≡ false))
-      → IfErr result (λ stop. (stop ≡ Memory) ⊎ IsByScript text (silent (status_of stop)))
-  unbuilt_stop items (Ok script) read why = tt
-  unbuilt_stop items (Err stop) read (is, fails) = inr (rw is (script_unbuilt items short read fails))
-
   -- a place without a token
   pub refused_line : (refusal : ScriptRefusal) (bytes : List ℕ) → script_of text ≡ Err refusal → bytes ≡ script_refusal_text refusal → IsByScript text (line bytes)
   refused_line refusal bytes read is = subst (λ b. IsByScript text (line b)) (sym is) (script_refused refusal short read)

@@ -15,6 +15,7 @@ use Rattle.plai_script.specs.declared.edit.Edit.{Edit}
 use Rattle.plai_session.specs.Programs.{judged, kept, behind}
 use Rattle.plai_top.specs.Blocks.{Block, text_of, texts_from, is_table, status_of_blocks, IsBlockOf, AreBlocksOf, no_more, one_more}
 use Rattle.plai_top.specs.Writing.{IsBlockText, WritesBlock, AreFormed, Wrote, WritesBlocks}
+use Rattle.plai_top.specs.declared.form.Form.{Form}
 use Rattle.plai_top.specs.declared.stop.Stop.{Stop}
 use Rattle.plai_top.specs.declared.stop.Stop.TheVariants.{WriteFault, Memory}
 
@@ -43,14 +44,14 @@ prefix_of (suc n) (x ∷ xs) ys = let (m, is) = prefix_of n xs ys in (suc m, ap 
 
 -- ---- texts of blocks
 
-pub texts_join : (number : ℕ) (blocks others : List Block) → texts_from number (blocks ++ others) ≡ texts_from number blocks ++ texts_from (number + length blocks) others
-texts_join number [] others = ap (λ n. texts_from n others) (omega arith)
-texts_join number (block ∷ blocks) others =
-    ap (λ l. text_of number block ++ l) (texts_join (number + 1) blocks others ∙ ap (λ n. texts_from (number + 1) blocks ++ texts_from n others) (omega arith))
-    ∙ sym (append_assoc (text_of number block) (texts_from (number + 1) blocks) (texts_from (number + length (block ∷ blocks)) others))
+pub texts_join : (form : Form) (number : ℕ) (blocks others : List Block) → texts_from form number (blocks ++ others) ≡ texts_from form number blocks ++ texts_from form (number + length blocks) others
+texts_join form number [] others = ap (λ n. texts_from form n others) (omega arith)
+texts_join form number (block ∷ blocks) others =
+    ap (λ l. text_of form number block ++ l) (texts_join form (number + 1) blocks others ∙ ap (λ n. texts_from form (number + 1) blocks ++ texts_from form n others) (omega arith))
+    ∙ sym (append_assoc (text_of form number block) (texts_from form (number + 1) blocks) (texts_from form (number + length (block ∷ blocks)) others))
 
-pub texts_behind : (blocks others : List Block) → texts_from 0 (blocks ++ others) ≡ texts_from 0 blocks ++ texts_from (length blocks) others
-texts_behind blocks others = texts_join 0 blocks others ∙ ap (λ n. texts_from 0 blocks ++ texts_from n others) (omega arith)
+pub texts_behind : (form : Form) (blocks others : List Block) → texts_from form 0 (blocks ++ others) ≡ texts_from form 0 blocks ++ texts_from form (length blocks) others
+texts_behind form blocks others = texts_join form 0 blocks others ∙ ap (λ n. texts_from form 0 blocks ++ texts_from form n others) (omega arith)
 
 module _ (p : PlainDomain) (limit : ℕ) where
   blocks_join : (gs hs : List (Result ProgramView EditCause)) (bs cs : List Block) → AreBlocksOf p limit gs bs → AreBlocksOf p limit hs cs → AreBlocksOf p limit (gs ++ hs) (bs ++ cs)
@@ -68,24 +69,24 @@ module _ (p : PlainDomain) (limit : ℕ) where
   one_alone : (g : Result ProgramView EditCause) (b : Block) → IsBlockOf p limit g b → AreBlocksOf p limit (g ∷ []) (b ∷ [])
   one_alone g b is = one_more g b [] [] is no_more
 
-  module _ (givens : List (Result ProgramView EditCause)) (before : Option (List ℕ)) where
-    pub nothing_written : Appends before before [] → Wrote p limit givens before before givens 0 true
+  module _ (form : Form) (givens : List (Result ProgramView EditCause)) (before : Option (List ℕ)) where
+    pub nothing_written : Appends before before [] → Wrote form p limit givens before before givens 0 true
     nothing_written none = record { earlier = []; written = []; parts = refl; are = no_more; bytes = none; formed = All-nil (λ given. IfOk given IsWellFormed); count = refl; tables = refl }
 
     module _ (now : Option (List ℕ)) (given : Result ProgramView EditCause) (left : List (Result ProgramView EditCause)) (number : ℕ) (are_tables : Bool)
-        (wrote : Wrote p limit givens before now (given ∷ left) number are_tables) where
+        (wrote : Wrote form p limit givens before now (given ∷ left) number are_tables) where
       -- one block more
-      pub wrote_more : IfOk given IsWellFormed → (next : Option (List ℕ)) (shows : Bool) → WritesBlock p limit number given now next (Ok shows) → Wrote p limit givens before next left (number + 1) (are_tables && shows)
+      pub wrote_more : IfOk given IsWellFormed → (next : Option (List ℕ)) (shows : Bool) → WritesBlock form p limit number given now next (Ok shows) → Wrote form p limit givens before next left (number + 1) (are_tables && shows)
       wrote_more own_form next shows (text, is, took) = record {
         earlier = wrote.earlier ++ given ∷ [];
         written = wrote.written ++ is.block ∷ [];
         parts = wrote.parts ∙ sym (append_assoc wrote.earlier (given ∷ []) left);
         are = blocks_join wrote.earlier (given ∷ []) wrote.written (is.block ∷ []) wrote.are (one_alone given is.block is.is_block);
         bytes =
-            let own : text ≡ text_of number is.block ++ [] = is.is_text ∙ sym (append-nil (text_of number is.block)) in
-            let last : text ≡ texts_from (length wrote.written) (is.block ∷ []) = own ∙ ap (λ n. texts_from n (is.block ∷ [])) (sym wrote.count) in
-            subst (Appends before next) (ap (λ l. texts_from 0 wrote.written ++ l) last ∙ sym (texts_behind wrote.written (is.block ∷ [])))
-            (appends_then before now next (texts_from 0 wrote.written) text wrote.bytes took);
+            let own : text ≡ text_of form number is.block ++ [] = is.is_text ∙ sym (append-nil (text_of form number is.block)) in
+            let last : text ≡ texts_from form (length wrote.written) (is.block ∷ []) = own ∙ ap (λ n. texts_from form n (is.block ∷ [])) (sym wrote.count) in
+            subst (Appends before next) (ap (λ l. texts_from form 0 wrote.written ++ l) last ∙ sym (texts_behind form wrote.written (is.block ∷ [])))
+            (appends_then before now next (texts_from form 0 wrote.written) text wrote.bytes took);
         formed = All-push (λ g. IfOk g IsWellFormed) wrote.earlier given wrote.formed own_form;
         count = length-append wrote.written (is.block ∷ []) ∙ ap (λ n. n + 1) wrote.count;
         tables = ap (λ b. b && shows) wrote.tables ∙ ap (λ b. list_all is_table wrote.written && b) (sym (alone is.block shows is.shows))
@@ -97,27 +98,27 @@ module _ (p : PlainDomain) (limit : ℕ) where
           alone b false e = ap (λ x. x && true) e
 
       -- a prefix of the block's text was written, or nothing of it
-      stopped_within : (next : Option (List ℕ)) (block : Block) → IsBlockOf p limit given block → (n : ℕ) → Appends now next (take n (text_of number block))
+      stopped_within : (next : Option (List ℕ)) (block : Block) → IsBlockOf p limit given block → (n : ℕ) → Appends now next (take n (text_of form number block))
           → (others : List Block) → AreBlocksOf p limit givens others
-          → (blocks : List Block) × AreBlocksOf p limit givens blocks × ((m : ℕ) × Appends before next (take m (texts_from 0 blocks)))
+          → (blocks : List Block) × AreBlocksOf p limit givens blocks × ((m : ℕ) × Appends before next (take m (texts_from form 0 blocks)))
       stopped_within next block is n took others are =
           let (tail, tails) = later_blocks wrote.earlier (given ∷ left) others (subst (λ gs. AreBlocksOf p limit gs others) wrote.parts are) in
           let (rest, rests) = last_blocks given left tail tails in
           let blocks : List Block = wrote.written ++ block ∷ rest in
           let are_blocks : AreBlocksOf p limit (wrote.earlier ++ given ∷ left) blocks = blocks_join wrote.earlier (given ∷ left) wrote.written (block ∷ rest) wrote.are (one_more given block left rest is rests) in
-          let behind_text : List ℕ = texts_from (number + 1) rest in
-          let (m, first) = prefix_of n (text_of number block) behind_text in
-          let whole : texts_from 0 blocks ≡ texts_from 0 wrote.written ++ (text_of number block ++ behind_text) =
-          texts_behind wrote.written (block ∷ rest) ∙ ap (λ k. texts_from 0 wrote.written ++ texts_from k (block ∷ rest)) wrote.count in
-          let cut : take (length (texts_from 0 wrote.written) + m) (texts_from 0 blocks) ≡ texts_from 0 wrote.written ++ take n (text_of number block) =
-          ap (take (length (texts_from 0 wrote.written) + m)) whole ∙ take-append-add (texts_from 0 wrote.written) (text_of number block ++ behind_text) m
-          ∙ ap (λ l. texts_from 0 wrote.written ++ l) first in (
+          let behind_text : List ℕ = texts_from form (number + 1) rest in
+          let (m, first) = prefix_of n (text_of form number block) behind_text in
+          let whole : texts_from form 0 blocks ≡ texts_from form 0 wrote.written ++ (text_of form number block ++ behind_text) =
+          texts_behind form wrote.written (block ∷ rest) ∙ ap (λ k. texts_from form 0 wrote.written ++ texts_from form k (block ∷ rest)) wrote.count in
+          let cut : take (length (texts_from form 0 wrote.written) + m) (texts_from form 0 blocks) ≡ texts_from form 0 wrote.written ++ take n (text_of form number block) =
+          ap (take (length (texts_from form 0 wrote.written) + m)) whole ∙ take-append-add (texts_from form 0 wrote.written) (text_of form number block ++ behind_text) m
+          ∙ ap (λ l. texts_from form 0 wrote.written ++ l) first in (
             blocks,
             subst (λ gs. AreBlocksOf p limit gs blocks) (sym wrote.parts) are_blocks,
             (
-              length (texts_from 0 wrote.written) + m,
+              length (texts_from form 0 wrote.written) + m,
               subst (Appends before next) (sym cut)
-                  (appends_then before now next (texts_from 0 wrote.written) (take n (text_of number block)) wrote.bytes took),
+                  (appends_then before now next (texts_from form 0 wrote.written) (take n (text_of form number block)) wrote.bytes took),
             ),
           )
 
@@ -129,7 +130,7 @@ module _ (p : PlainDomain) (limit : ℕ) where
           head_of : (bs : List Block) → AreBlocksOf p limit (given ∷ left) bs → (block : Block) × IsBlockOf p limit given block
           head_of bs (one_more _ b _ ds is also) = (b, is)
 
-      pub wrote_stops : (next : Option (List ℕ)) (stop : Stop) → WritesBlock p limit number given now next (Err stop) → WritesBlocks p limit givens before next (Err stop)
+      pub wrote_stops : (next : Option (List ℕ)) (stop : Stop) → WritesBlock form p limit number given now next (Err stop) → WritesBlocks form p limit givens before next (Err stop)
       wrote_stops next stop (inl (memory, same)) = (
         inl memory,
         λ others are.
@@ -142,8 +143,8 @@ module _ (p : PlainDomain) (limit : ℕ) where
             stopped_within next is.block is.is_block n (subst (λ l. Appends now next (take n l)) is.is_text took) others are,
       )
 
-    pub wrote_all : (now : Option (List ℕ)) (number : ℕ) (are_tables : Bool) → Wrote p limit givens before now [] number are_tables
-        → WritesBlocks p limit givens before now (Ok (cond are_tables 0 1))
+    pub wrote_all : (now : Option (List ℕ)) (number : ℕ) (are_tables : Bool) → Wrote form p limit givens before now [] number are_tables
+        → WritesBlocks form p limit givens before now (Ok (cond are_tables 0 1))
     wrote_all now number are_tables wrote =
         let parts : givens ≡ wrote.earlier = wrote.parts ∙ append-nil wrote.earlier in
         record {
@@ -156,53 +157,53 @@ module _ (p : PlainDomain) (limit : ℕ) where
 
 -- ---- an item of the script
 
-module _ (p : PlainDomain) (limit : ℕ) (givens : List (Result ProgramView EditCause)) (before now : Option (List ℕ)) (program : ProgramView)
+module _ (form : Form) (p : PlainDomain) (limit : ℕ) (givens : List (Result ProgramView EditCause)) (before now : Option (List ℕ)) (program : ProgramView)
     (items : List (Result Edit EditCause)) (i : ℕ) (item : Result Edit EditCause) (number : ℕ) (are_tables : Bool) (within : i < length items) (is : item ≡ get_or items i item) where
   -- the next item is the first that is left
   next_left : behind program (drop i items) ≡ judged program item ∷ behind (kept program (judged program item)) (drop (i + 1) items)
   next_left = ap (behind program) (drop_more items i item within ∙ ap (λ x. x ∷ drop (i + 1) items) (sym is))
 
-  kept_form : (given : Result ProgramView EditCause) (changed : ProgramView) → changed ≡ kept program given → IsWellFormed changed → IfOk given IsWellFormed
-  kept_form (Ok own) changed same form = subst IsWellFormed same form
-  kept_form (Err cause) changed same form = tt
+  kept_well : (given : Result ProgramView EditCause) (changed : ProgramView) → changed ≡ kept program given → IsWellFormed changed → IfOk given IsWellFormed
+  kept_well (Ok own) changed same well = subst IsWellFormed same well
+  kept_well (Err cause) changed same well = tt
 
-  at_next : Wrote p limit givens before now (behind program (drop i items)) number are_tables
-      → Wrote p limit givens before now (judged program item ∷ behind (kept program (judged program item)) (drop (i + 1) items)) number are_tables
-  at_next wrote = subst (λ l. Wrote p limit givens before now l number are_tables) next_left wrote
+  at_next : Wrote form p limit givens before now (behind program (drop i items)) number are_tables
+      → Wrote form p limit givens before now (judged program item ∷ behind (kept program (judged program item)) (drop (i + 1) items)) number are_tables
+  at_next wrote = subst (λ l. Wrote form p limit givens before now l number are_tables) next_left wrote
 
-  pub item_more : (next : Option (List ℕ)) (shows : Bool) (changed : ProgramView) → Wrote p limit givens before now (behind program (drop i items)) number are_tables
-      → WritesBlock p limit number (judged program item) now next (Ok shows) → changed ≡ kept program (judged program item) → IsWellFormed changed
-      → Wrote p limit givens before next (behind changed (drop (i + 1) items)) (number + 1) (are_tables && shows)
-  item_more next shows changed wrote writes same form =
-      subst (λ g. Wrote p limit givens before next (behind g (drop (i + 1) items)) (number + 1) (are_tables && shows)) (sym same)
-      (wrote_more p limit givens before now (judged program item) (behind (kept program (judged program item)) (drop (i + 1) items)) number are_tables (at_next wrote) (kept_form (judged program item) changed same form) next shows writes)
+  pub item_more : (next : Option (List ℕ)) (shows : Bool) (changed : ProgramView) → Wrote form p limit givens before now (behind program (drop i items)) number are_tables
+      → WritesBlock form p limit number (judged program item) now next (Ok shows) → changed ≡ kept program (judged program item) → IsWellFormed changed
+      → Wrote form p limit givens before next (behind changed (drop (i + 1) items)) (number + 1) (are_tables && shows)
+  item_more next shows changed wrote writes same well =
+      subst (λ g. Wrote form p limit givens before next (behind g (drop (i + 1) items)) (number + 1) (are_tables && shows)) (sym same)
+      (wrote_more p limit form givens before now (judged program item) (behind (kept program (judged program item)) (drop (i + 1) items)) number are_tables (at_next wrote) (kept_well (judged program item) changed same well) next shows writes)
 
-  pub item_stops : (next : Option (List ℕ)) (stop : Stop) → Wrote p limit givens before now (behind program (drop i items)) number are_tables
-      → WritesBlock p limit number (judged program item) now next (Err stop) → WritesBlocks p limit givens before next (Err stop)
+  pub item_stops : (next : Option (List ℕ)) (stop : Stop) → Wrote form p limit givens before now (behind program (drop i items)) number are_tables
+      → WritesBlock form p limit number (judged program item) now next (Err stop) → WritesBlocks form p limit givens before next (Err stop)
   item_stops next stop wrote writes =
-      wrote_stops p limit givens before now (judged program item) (behind (kept program (judged program item)) (drop (i + 1) items)) number are_tables (at_next wrote) next stop writes
+      wrote_stops p limit form givens before now (judged program item) (behind (kept program (judged program item)) (drop (i + 1) items)) number are_tables (at_next wrote) next stop writes
 
-module _ (p : PlainDomain) (limit : ℕ) (givens : List (Result ProgramView EditCause)) (before now : Option (List ℕ)) (program : ProgramView)
+module _ (form : Form) (p : PlainDomain) (limit : ℕ) (givens : List (Result ProgramView EditCause)) (before now : Option (List ℕ)) (program : ProgramView)
     (items : List (Result Edit EditCause)) where
-  pub items_end : (i number : ℕ) (are_tables : Bool) → Wrote p limit givens before now (behind program (drop i items)) number are_tables → length items ≤ i
-      → WritesBlocks p limit givens before now (Ok (cond are_tables 0 1))
+  pub items_end : (i number : ℕ) (are_tables : Bool) → Wrote form p limit givens before now (behind program (drop i items)) number are_tables → length items ≤ i
+      → WritesBlocks form p limit givens before now (Ok (cond are_tables 0 1))
   items_end i number are_tables wrote past =
-      wrote_all p limit givens before now number are_tables (subst (λ l. Wrote p limit givens before now (behind program l) number are_tables) (drop_all i items past) wrote)
+      wrote_all p limit form givens before now number are_tables (subst (λ l. Wrote form p limit givens before now (behind program l) number are_tables) (drop_all i items past) wrote)
 
 -- the same domain and limit
-pub block_for : {D : Type 0} (plain : D → PlainDomain) (own domain : D) (most limit number : ℕ) (given : Result ProgramView EditCause) (now next : Option (List ℕ)) (result : Result Bool Stop)
-    → own ≡ domain → most ≡ limit → WritesBlock (plain own) most number given now next result → WritesBlock (plain domain) limit number given now next result
-block_for plain own domain most limit number given now next result same also writes =
-    subst (λ n. WritesBlock (plain domain) n number given now next result) also (subst (λ d. WritesBlock (plain d) most number given now next result) same writes)
+pub block_for : {D : Type 0} (form : Form) (plain : D → PlainDomain) (own domain : D) (most limit number : ℕ) (given : Result ProgramView EditCause) (now next : Option (List ℕ)) (result : Result Bool Stop)
+    → own ≡ domain → most ≡ limit → WritesBlock form (plain own) most number given now next result → WritesBlock form (plain domain) limit number given now next result
+block_for form plain own domain most limit number given now next result same also writes =
+    subst (λ n. WritesBlock form (plain domain) n number given now next result) also (subst (λ d. WritesBlock form (plain d) most number given now next result) same writes)
 
 -- ---- the first block
 
-pub first_written : (p : PlainDomain) (limit : ℕ) (given : Result ProgramView EditCause) (left : List (Result ProgramView EditCause)) (before now : Option (List ℕ)) (shows : Bool)
-    → IfOk given IsWellFormed → WritesBlock p limit 0 given before now (Ok shows) → Wrote p limit (given ∷ left) before now left 1 shows
-first_written p limit given left before now shows form writes =
-    wrote_more p limit (given ∷ left) before before given left 0 true (nothing_written p limit (given ∷ left) before (nothing_more before)) form now shows writes
+pub first_written : (form : Form) (p : PlainDomain) (limit : ℕ) (given : Result ProgramView EditCause) (left : List (Result ProgramView EditCause)) (before now : Option (List ℕ)) (shows : Bool)
+    → IfOk given IsWellFormed → WritesBlock form p limit 0 given before now (Ok shows) → Wrote form p limit (given ∷ left) before now left 1 shows
+first_written form p limit given left before now shows well writes =
+    wrote_more p limit form (given ∷ left) before before given left 0 true (nothing_written p limit form (given ∷ left) before (nothing_more before)) well now shows writes
 
-pub first_stops : (p : PlainDomain) (limit : ℕ) (given : Result ProgramView EditCause) (left : List (Result ProgramView EditCause)) (before now : Option (List ℕ)) (stop : Stop)
-    → WritesBlock p limit 0 given before now (Err stop) → WritesBlocks p limit (given ∷ left) before now (Err stop)
-first_stops p limit given left before now stop writes =
-    wrote_stops p limit (given ∷ left) before before given left 0 true (nothing_written p limit (given ∷ left) before (nothing_more before)) now stop writes
+pub first_stops : (form : Form) (p : PlainDomain) (limit : ℕ) (given : Result ProgramView EditCause) (left : List (Result ProgramView EditCause)) (before now : Option (List ℕ)) (stop : Stop)
+    → WritesBlock form p limit 0 given before now (Err stop) → WritesBlocks form p limit (given ∷ left) before now (Err stop)
+first_stops form p limit given left before now stop writes =
+    wrote_stops p limit form (given ∷ left) before before given left 0 true (nothing_written p limit form (given ∷ left) before (nothing_more before)) now stop writes

@@ -3,7 +3,9 @@ use Rattle.std.specs.Prelude.{ℕ, ◌≡◌, ◌≢◌, ◌⊎◌, List, [], ta
 use Rattle.std.specs.Io.KnownBytes.{Appends, Keeps}
 use Rattle.std.specs.declared.option.Option.{Option}
 use Rattle.plai_base.specs.Texts.{TextMap}
-use Rattle.plai_top.specs.Outcome.{Outcome, IsByWords, IsEarly, IsOutcome, AreOne}
+use Rattle.plai_words.specs.declared.types.Settings.{Settings}
+use Rattle.plai_top.specs.Commands.{IsMake}
+use Rattle.plai_top.specs.Outcome.{Outcome, IsByWords, IsEarly, IsMadeOutcome, AreOne}
 
 -- a prefix of the bytes was taken
 abbrev pub TookPrefix : Option (List ℕ) → Option (List ℕ) → List ℕ → Type 0
@@ -26,16 +28,19 @@ EndsBy result before after outcome =
 abbrev pub IsFault : ℕ → Type 0
 IsFault result = (result ≡ 5) ⊎ (result ≡ 6) ⊎ (result ≡ 7)
 
--- the answer is a fault's, or some outcome came
-abbrev pub IsFaultOrComes : List (List ℕ) → TextMap → List ℕ → ℕ → Option (List ℕ) → Option (List ℕ) → Type 0
-IsFaultOrComes words files script result before after =
-    IsFault result ⊎ ((outcome : Outcome) × IsOutcome words files script outcome × Comes result before after outcome)
+-- the answer is a fault's, or one of these outcomes came
+abbrev pub IsFaultOrComes : (Outcome → Type 0) → ℕ → Option (List ℕ) → Option (List ℕ) → Type 0
+IsFaultOrComes Among result before after = IsFault result ⊎ ((outcome : Outcome) × Among outcome × Comes result before after outcome)
 
--- however the outcome is, the call ended by it, or by one that differs from it in stops alone
-abbrev pub EndsByEach : List (List ℕ) → TextMap → List ℕ → ℕ → Option (List ℕ) → Option (List ℕ) → Type 0
-EndsByEach words files script result before after =
-    (outcome : Outcome) → IsOutcome words files script outcome
-    → (other : Outcome) × IsOutcome words files script other × AreOne outcome other × EndsBy result before after other
+-- whichever of these the outcome is, the call ended by it, or by one that differs from it in stops alone
+abbrev pub EndsByEach : (Outcome → Type 0) → ℕ → Option (List ℕ) → Option (List ℕ) → Type 0
+EndsByEach Among result before after =
+    (outcome : Outcome) → Among outcome → (other : Outcome) × Among other × AreOne outcome other × EndsBy result before after other
+
+-- a call for a made program ended by an outcome of that, or by a fault behind a part of it
+abbrev pub EndsMade : List (List ℕ) → ℕ → Option (List ℕ) → Option (List ℕ) → Type 0
+EndsMade words result before after = (settings : Settings) (count : ℕ) → IsMake words settings count
+    → IsFaultOrComes (IsMadeOutcome settings count) result before after × EndsByEach (IsMadeOutcome settings count) result before after
 
 -- what the words decide came, unless memory ran out
 abbrev pub EndsByWords : List (List ℕ) → ℕ → Type 0
@@ -48,7 +53,7 @@ EndsEarly words files result before after LibraryFailed = (outcome : Outcome) �
 
 -- a status at which nothing is written
 abbrev pub IsSilent : ℕ → Type 0
-IsSilent result = (result ≡ 2) ⊎ (result ≡ 4) ⊎ (result ≡ 5) ⊎ (result ≡ 8)
+IsSilent result = (result ≡ 2) ⊎ (result ≡ 4) ⊎ (result ≡ 5)
 
 -- a status that is decided before the analysis
 abbrev pub IsBeforeWork : ℕ → Type 0
@@ -56,4 +61,4 @@ IsBeforeWork result = IsSilent result ⊎ (result ≡ 3)
 
 -- the statuses
 abbrev pub IsStatus : ℕ → Type 0
-IsStatus result = (result ≡ 0) ⊎ (result ≡ 1) ⊎ (result ≡ 2) ⊎ (result ≡ 3) ⊎ (result ≡ 4) ⊎ IsFault result ⊎ (result ≡ 8)
+IsStatus result = (result ≡ 0) ⊎ (result ≡ 1) ⊎ (result ≡ 2) ⊎ (result ≡ 3) ⊎ (result ≡ 4) ⊎ IsFault result

@@ -1,8 +1,7 @@
 -- The texts of a command's files, and the program that they are loaded to.
-use Rattle.std.specs.Prelude.{◌≡◌, ◌≤◌, ◌<◌, ◌-◌, ℕ, List, [], Bool, true, false, All, Any, Ok, Err, map, length, unwrap_or, slice_get}
+use Rattle.std.specs.Prelude.{◌≡◌, ◌≤◌, ◌<◌, ◌-◌, ℕ, List, [], All, Any, Ok, Err, map, length, unwrap_or, slice_get}
 use Rattle.plai_base.specs.Texts.{TextMap, text_of, longest_text}
 use Rattle.plai_words.specs.declared.types.Settings.{Settings}
-use Rattle.plai_clauses.specs.declared.check.Check.{Check}
 use Rattle.plai_clauses.specs.Program.{ProgramView}
 use Rattle.plai_modules.specs.Loading.{Refusal, loaded}
 use Rattle.plai_top.specs.Commands.{IsCommand}
@@ -22,14 +21,6 @@ IsSomeLong files names = Any (λ name. longest_text < length (text_of files name
 -- the name of the file of this number, from 1
 abbrev pub name_at : List (List ℕ) → ℕ → List ℕ
 name_at names number = unwrap_or (slice_get names (number - 1)) []
-
-abbrev pub has_no_checks : List Check → Bool
-has_no_checks [] = true
-has_no_checks _ = false
-
--- a program that is analysed as yet: one without checks
-abbrev pub is_built_program : ProgramView → Bool
-is_built_program program = has_no_checks program.checks
 
 -- the words form a command, whose files aren't too long
 pub record HasFiles (words : List (List ℕ)) (files : TextMap) (settings : Settings) : Type 0 where

@@ -1,28 +1,31 @@
 -- The whole promise on the block of an edit: its bytes are the text of the least table of the program after the edit, kept to
 -- the rows that its entries reach, and every call and every answer in every left-to-right resolution, of any number of steps
--- from a described goal, is described by one printed row (Muthukumar and Hermenegildo 1992; resolution with the occurs check
--- as in Lloyd, Foundations of Logic Programming, 1987).
+-- from a described goal, is described by one printed row, and each verdict keeps its promise in all of them (Muthukumar and
+-- Hermenegildo 1992; resolution with the occurs check as in Lloyd, Foundations of Logic Programming, 1987).
 use Rattle.std.specs.Prelude.{◌≡◌, ℕ, ◌+◌, Some, List, [], ◌∷◌, ◌++◌, Result, Ok, Err}
 use Rattle.std.specs.Io.KnownBytes.{Appends}
 use Rattle.std.specs.declared.option.Option.{Option}
 use Rattle.plai_base.specs.Texts.{TextMap}
+use Rattle.plai_theory.specs.Words.{IsIn}
 use Rattle.plai_terms.specs.declared.term.Term.{Term}
 use Rattle.plai_terms.specs.declared.abs.Abs.{Abs}
 use Rattle.plai_terms.specs.declared.pred_key.PredKey.{PredKey}
 use Rattle.plai_terms.specs.declared.plain_row.PlainRow.{PlainRow}
 use Rattle.plai_domain.specs.Plain.{PlainDomain}
 use Rattle.plai_clauses.specs.Program.{ProgramView}
+use Rattle.plai_clauses.specs.declared.check.Check.{Check}
 use Rattle.plai_clauses.specs.declared.edit_cause.EditCause.{EditCause}
+use Rattle.plai_assert.specs.Verdicts.{verdict_of, verdicts_of}
 use Rattle.plai_eval.specs.LeastTable.{IsLeastTable, answer_in}
-use Rattle.plai_sld.specs.Verdicts.{IsCalled, IsAnswered}
+use Rattle.plai_sld.specs.Verdicts.{IsCalled, IsAnswered, IsKeptByRuns}
 use Rattle.plai_render.specs.Block.{row_text, block_text}
 use Rattle.plai_render.specs.Texts.{text_of}
 use Rattle.plai_script.specs.declared.edit.Edit.{Edit}
 use Rattle.plai_session.specs.Programs.{behind}
 use Rattle.plai_words.specs.declared.types.Settings.{Settings}
 use Rattle.plai_top.specs.Blocks.{Block, table, refused, stopped, texts_from}
-use Rattle.plai_top.specs.Outcome.{IsLoaded, HasEdits, AreBlocks}
-use Rattle.plai_top.specs.Tasks.{domain_of, task_of}
+use Rattle.plai_top.specs.Outcome.{IsAsked, AreBlocks}
+use Rattle.plai_top.specs.Tasks.{domain_of, form_of, task_of}
 
 -- a line of the block is the row's
 abbrev pub IsPrinted : List ℕ → PlainRow → Type 0
@@ -44,16 +47,18 @@ pub record DescribesRuns (p : PlainDomain) (program : ProgramView) (block : List
   pub calls : (pred : PredKey) (args : List Term) → IsCalled p program pred args → IsCallPrinted p block pred args
   pub answers : (pred : PredKey) (was now : List Term) → IsAnswered p program pred was now → IsAnswerPrinted p block pred was now
 
--- The block of the edit of that number is the text of the program's least table, and describes all runs of the program.
+-- The block of the edit of that number is the text of the program's least table with its verdicts on the program's assertions.
+-- It describes all runs of the program, and each verdict keeps its promise in all of them.
 pub record IsPromised (p : PlainDomain) (program : ProgramView) (number : ℕ) (block : List ℕ) : Type 0 where
   pub rows : List PlainRow
   pub least : IsLeastTable p program rows
-  pub written : block ≡ block_text number rows
+  pub written : block ≡ block_text number rows program.checks (verdicts_of p rows program.checks)
   pub described : DescribesRuns p program block
+  pub kept : (check : Check) → IsIn check program.checks → IsKeptByRuns p program check (verdict_of p rows check)
 
 -- a block that shows a table keeps the promise for its program; one that doesn't promises nothing
 abbrev pub IsPromisedBlock : PlainDomain → ℕ → Result ProgramView EditCause → Block → Type 0
-IsPromisedBlock p number (Ok program) (table rows) = IsPromised p program number (block_text number rows)
+IsPromisedBlock p number (Ok program) (table rows checks verdicts) = IsPromised p program number (block_text number rows checks verdicts)
 IsPromisedBlock p number (Ok program) (refused cause) = Unit {0}
 IsPromisedBlock p number (Ok program) (stopped limit) = Unit {0}
 IsPromisedBlock p number (Err cause) block = Unit {0}
@@ -71,8 +76,7 @@ pub record TakesPromised (words : List (List ℕ)) (files : TextMap) (script : L
   pub program : ProgramView
   pub items : List (Result Edit EditCause)
   pub blocks : List Block
-  pub loaded : IsLoaded words files settings program
-  pub edits : HasEdits script items
+  pub asked : IsAsked words files script settings program items
   pub are : AreBlocks settings program items blocks
-  pub taken : Appends before after (texts_from 0 blocks)
+  pub taken : Appends before after (texts_from (form_of settings) 0 blocks)
   pub promised : ArePromised (domain_of (task_of settings)) 0 (Ok program ∷ behind program items) blocks

@@ -8,17 +8,18 @@ use Rattle.plai_base.specs.Texts.{TextMap}
 use Rattle.plai_clauses.specs.Program.{ProgramView}
 use Rattle.plai_clauses.specs.declared.edit_cause.EditCause.{EditCause}
 use Rattle.plai_modules.specs.Loading.{Refusal}
-use Rattle.plai_script.specs.Checks.{is_without_checks}
 use Rattle.plai_script.specs.Scripts.{ScriptRefusal, script_of}
 use Rattle.plai_script.specs.declared.edit.Edit.{Edit}
 use Rattle.plai_session.specs.Programs.{behind}
 use Rattle.plai_words.specs.Command.{settings_of}
 use Rattle.plai_words.specs.declared.types.Settings.{Settings}
 use Rattle.plai_top.specs.Blocks.{Block, texts_from, status_of_blocks, AreBlocksOf, AreSameUpToStops}
-use Rattle.plai_top.specs.Commands.{most_files, is_built_command, IsCommand}
-use Rattle.plai_top.specs.Files.{IsSomeLong, name_at, is_built_program, HasProgram, HasRefusal}
+use Rattle.plai_make.specs.Programs.{made_program, made_edits}
+use Rattle.plai_top.specs.Commands.{most_files, is_over_files, IsCommand, IsMake}
+use Rattle.plai_top.specs.Files.{IsSomeLong, name_at, HasProgram, HasRefusal}
 use Rattle.plai_top.specs.Refusal.{refusal_text, script_refusal_text}
-use Rattle.plai_top.specs.Tasks.{domain_of, task_of}
+use Rattle.plai_top.specs.Tasks.{domain_of, form_of, task_of}
+use Rattle.plai_top.specs.declared.form.Form.{Form}
 
 -- a status and the bytes that are written with it
 pub record Outcome : Type 0 where
@@ -34,8 +35,8 @@ abbrev pub line : List ℕ → Outcome
 line text = record { status = 3; bytes = text }
 
 -- all was done, with these blocks
-abbrev pub done : List Block → Outcome
-done blocks = record { status = status_of_blocks blocks; bytes = texts_from 0 blocks }
+abbrev pub done : Form → List Block → Outcome
+done form blocks = record { status = status_of_blocks blocks; bytes = texts_from form 0 blocks }
 
 -- loading refused a term
 abbrev pub refused_by : List (List ℕ) → Refusal → Outcome
@@ -44,8 +45,7 @@ refused_by names refusal = line (refusal_text (name_at names refusal.file) refus
 -- the outcomes that the words alone decide
 pub data IsByWords (words : List (List ℕ)) : Outcome → Type 0 where
   no_command : settings_of words ≡ None → IsByWords words (silent 2)
-  not_built : (settings : Settings) → settings_of words ≡ Some settings → is_built_command settings ≡ false → IsByWords words (silent 8)
-  too_many : (settings : Settings) → settings_of words ≡ Some settings → is_built_command settings ≡ true → most_files < length settings.files
+  too_many : (settings : Settings) → settings_of words ≡ Some settings → is_over_files settings ≡ true → most_files < length settings.files
       → IsByWords words (silent 4)
 
 -- the outcomes that the words and the files decide, whatever the script is
@@ -53,13 +53,6 @@ pub data IsEarly (words : List (List ℕ)) (files : TextMap) : Outcome → Type 
   by_words : (outcome : Outcome) → IsByWords words outcome → IsEarly words files outcome
   too_long : (settings : Settings) → IsCommand words settings → IsSomeLong files settings.files → IsEarly words files (silent 4)
   refused : (settings : Settings) (refusal : Refusal) → HasRefusal words files settings refusal → IsEarly words files (refused_by settings.files refusal)
-  unbuilt : (settings : Settings) (program : ProgramView) → HasProgram words files settings program → is_built_program program ≡ false
-      → IsEarly words files (silent 8)
-
--- the files are loaded to a program that is analysed as yet
-pub record IsLoaded (words : List (List ℕ)) (files : TextMap) (settings : Settings) (program : ProgramView) : Type 0 where
-  pub loaded : HasProgram words files settings program
-  pub built : is_built_program program ≡ true
 
 -- the most bytes of a script: 16 mebibytes
 abbrev pub longest_script : ℕ
@@ -70,32 +63,40 @@ pub data IsByScript (script : List ℕ) : Outcome → Type 0 where
   script_too_long : longest_script < length script → IsByScript script (silent 4)
   script_refused : (refusal : ScriptRefusal) → length script ≤ longest_script → script_of script ≡ Err refusal
       → IsByScript script (line (script_refusal_text refusal))
-  script_unbuilt : (items : List (Result Edit EditCause)) → length script ≤ longest_script → script_of script ≡ Ok items
-      → is_without_checks items ≡ false → IsByScript script (silent 8)
 
--- the edits of a script that is carried out as yet, which has no edit of a check
+-- the edits of a script
 pub record HasEdits (script : List ℕ) (items : List (Result Edit EditCause)) : Type 0 where
   pub short : length script ≤ longest_script
   pub read : script_of script ≡ Ok items
-  pub built : is_without_checks items ≡ true
 
 -- the programs that are analysed, the loaded one first, each with the blocks that it may have
 abbrev pub AreBlocks : Settings → ProgramView → List (Result Edit EditCause) → List Block → Type 0
 AreBlocks settings program items = AreBlocksOf (domain_of (task_of settings)) settings.rows (Ok program ∷ behind program items)
 
+-- what is analysed: the program of the files and the edits of the script, or a made program and its edits
+pub data IsAsked (words : List (List ℕ)) (files : TextMap) (script : List ℕ) (settings : Settings) : ProgramView → List (Result Edit EditCause) → Type 0 where
+  by_files : (program : ProgramView) (items : List (Result Edit EditCause)) → HasProgram words files settings program → HasEdits script items
+      → IsAsked words files script settings program items
+  by_make : (count : ℕ) → IsMake words settings count → IsAsked words files script settings (made_program count) (made_edits count)
+
 -- the outcomes of a call
 pub data IsOutcome (words : List (List ℕ)) (files : TextMap) (script : List ℕ) : Outcome → Type 0 where
   early : (outcome : Outcome) → IsEarly words files outcome → IsOutcome words files script outcome
-  by_script : (settings : Settings) (program : ProgramView) (outcome : Outcome) → IsLoaded words files settings program
+  by_script : (settings : Settings) (program : ProgramView) (outcome : Outcome) → HasProgram words files settings program
       → IsByScript script outcome → IsOutcome words files script outcome
   blocks : (settings : Settings) (program : ProgramView) (items : List (Result Edit EditCause)) (blocks : List Block)
-      → IsLoaded words files settings program → HasEdits script items → AreBlocks settings program items blocks
-      → IsOutcome words files script (done blocks)
+      → IsAsked words files script settings program items → AreBlocks settings program items blocks
+      → IsOutcome words files script (done (form_of settings) blocks)
+
+-- the outcomes of a made program, which depend on no file and no script
+abbrev pub IsMadeOutcome : Settings → ℕ → Outcome → Type 0
+IsMadeOutcome settings count outcome =
+    (blocks : List Block) × AreBlocks settings (made_program count) (made_edits count) blocks × (outcome ≡ done (form_of settings) blocks)
 
 -- the same outcome, but that a stop may stand in the place of a block
 abbrev pub AreOne : Outcome → Outcome → Type 0
 AreOne first second = (first ≡ second)
-    ⊎ ((blocks : List Block) × (others : List Block) × (first ≡ done blocks) × (second ≡ done others) × AreSameUpToStops blocks others)
+    ⊎ ((form : Form) × (blocks : List Block) × (others : List Block) × (first ≡ done form blocks) × (second ≡ done form others) × AreSameUpToStops blocks others)
 
 -- a call has one outcome, but that a stop may come beside a table or the other stop, where names that are not in the table
 -- were met on the way

@@ -6,7 +6,9 @@ use Rattle.plai_base.specs.Texts.{TextMap}
 use Rattle.plai_clauses.specs.Program.{ProgramView}
 use Rattle.plai_words.specs.declared.types.Settings.{Settings}
 use Rattle.plai_session.specs.Programs.{behind}
-use Rattle.plai_top.specs.Outcome.{Outcome, IsEarly, IsLoaded, IsByScript, HasEdits, IsOutcome, silent, line}
+use Rattle.plai_make.specs.Programs.{made_program, made_edits}
+use Rattle.plai_top.specs.Commands.{IsMake}
+use Rattle.plai_top.specs.Outcome.{Outcome, IsEarly, IsAsked, IsByScript, HasEdits, IsOutcome, silent, line}
 use Rattle.plai_top.specs.Scripts.{AreReadable}
 use Rattle.plai_top.specs.Stops.{status_of}
 use Rattle.plai_top.specs.Tasks.{domain_of, task_of}
@@ -15,13 +17,26 @@ use Rattle.plai_top.specs.declared.plan.Plan.{Plan}
 use Rattle.plai_top.specs.declared.plan.Plan.TheVariants.{Line, Blocks}
 use Rattle.plai_top.specs.declared.task.Task.{Task}
 use Rattle.plai_top.specs.declared.stop.Stop.{Stop}
-use Rattle.plai_top.specs.declared.stop.Stop.TheVariants.{TooLarge, ReadFault, WriteFault, Memory, NotBuilt}
+use Rattle.plai_top.specs.declared.stop.Stop.TheVariants.{TooLarge, ReadFault, WriteFault, Memory}
+
+-- the blocks of a made program of so many predicates
+abbrev pub IsMadeBy : Task → ℕ → Plan → Type 0
+IsMadeBy task count (Line bytes) = ⊥
+IsMadeBy task count (Blocks own program items) = (own ≡ task) × (program ≡ made_program count) × (items.items ≡ made_edits count)
+
+abbrev pub IsMadePlan : Settings → ℕ → Plan → Type 0
+IsMadePlan settings count plan = IsMadeBy (task_of settings) count plan
+
+-- the plan is that of a made program, if the words ask for one, unless memory runs out
+abbrev pub KeepsMade : List (List ℕ) → Result Plan Stop → Type 0
+KeepsMade words result = (settings : Settings) (count : ℕ) → IsMake words settings count
+    → MatchResult result (IsMadePlan settings count) (λ stop. stop ≡ Memory)
 
 -- the words, the files and the script ask for this: the line of a refusal, or the blocks of a program and of edits
 abbrev pub IsPlan : List (List ℕ) → TextMap → List ℕ → Plan → Type 0
 IsPlan words files script (Line bytes) = IsOutcome words files script (line bytes.items)
 IsPlan words files script (Blocks task program items) =
-    (settings : Settings) × (task_of settings ≡ task) × IsLoaded words files settings program × HasEdits script items.items
+    (settings : Settings) × (task_of settings ≡ task) × IsAsked words files script settings program items.items
 
 -- the line has bytes; the depth is a depth, and the terms of the edits are as they were read
 abbrev pub IsFitPlan : Plan → Type 0
@@ -49,16 +64,16 @@ abbrev pub CarriesOut : Option (List ℕ) → Option (List ℕ) → Plan → Res
 CarriesOut before after (Line bytes) (Ok status) = (status ≡ 3) × Appends before after bytes.items
 CarriesOut before after (Line bytes) (Err stop) = (stop ≡ WriteFault) × ((n : ℕ) × Appends before after (take n bytes.items))
 CarriesOut before after (Blocks task program items) result =
-    WritesBlocks (domain_of task) task.rows (Ok program ∷ behind program items.items) before after result
+    WritesBlocks task.form (domain_of task) task.rows (Ok program ∷ behind program items.items) before after result
 
 -- a plan behind a loaded program, by the script alone
 abbrev pub IsScripted : Task → ProgramView → List ℕ → Plan → Type 0
 IsScripted task program script (Line bytes) = IsByScript script (line bytes.items)
 IsScripted task program script (Blocks own loaded items) = (own ≡ task) × (loaded ≡ program) × HasEdits script items.items
 
--- a stop that reading a script may come to
-abbrev pub IsScriptStop : Stop → Type 0
-IsScriptStop stop = (stop ≡ TooLarge) ⊎ (stop ≡ ReadFault) ⊎ (stop ≡ Memory) ⊎ (stop ≡ NotBuilt)
+-- a stop that reading files or a script may come to
+abbrev pub IsInputStop : Stop → Type 0
+IsInputStop stop = (stop ≡ TooLarge) ⊎ (stop ≡ ReadFault) ⊎ (stop ≡ Memory)
 
 -- the status of a plan that is carried out: 3 for a line, 0 or 1 for blocks
 abbrev pub IsPlanStatus : Plan → ℕ → Type 0

@@ -7,7 +7,7 @@ use Rattle.plai_top.specs.Outcome.{Outcome, IsByScript, HasEdits, line}
 use Rattle.plai_top.specs.declared.script.Script.{Script}
 use Rattle.plai_top.specs.declared.script.Script.TheVariants.{Edits, Refused}
 
--- the text makes this: the edits of a script that is carried out, or the line of its refusal
+-- the text makes this: the edits of a script, or the line of its refusal
 abbrev pub IsScriptOf : List ℕ → Script → Type 0
 IsScriptOf text (Edits items) = HasEdits text items.items
 IsScriptOf text (Refused bytes) = IsByScript text (line bytes.items)

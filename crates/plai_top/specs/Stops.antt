@@ -1,7 +1,7 @@
 -- What a stop says of a call.
 use Rattle.std.specs.Prelude.{ℕ, ◌≡◌, ◌⊎◌}
 use Rattle.plai_top.specs.declared.stop.Stop.{Stop}
-use Rattle.plai_top.specs.declared.stop.Stop.TheVariants.{NoCommand, TooLarge, ReadFault, WriteFault, Memory, NotBuilt}
+use Rattle.plai_top.specs.declared.stop.Stop.TheVariants.{NoCommand, TooLarge, ReadFault, WriteFault, Memory}
 
 -- the status that a call ends with
 abbrev pub status_of : Stop → ℕ
@@ -10,7 +10,6 @@ status_of TooLarge = 4
 status_of ReadFault = 5
 status_of WriteFault = 6
 status_of Memory = 7
-status_of NotBuilt = 8
 
 -- a read failed, or memory ran out
 abbrev pub IsReadEnd : Stop → Type 0

@@ -7,11 +7,12 @@ use Rattle.plai_domain.specs.Plain.{PlainDomain}
 use Rattle.plai_clauses.specs.Program.{ProgramView}
 use Rattle.plai_clauses.specs.WellFormed.{IsWellFormed}
 use Rattle.plai_clauses.specs.declared.edit_cause.EditCause.{EditCause}
-use Rattle.plai_render.specs.declared.text_row.TextRow.{TextRow}
+use Rattle.plai_render.specs.declared.text_table.TextTable.{TextTable}
 use Rattle.plai_session.specs.Sessions.{IsAnalysed}
 use Rattle.plai_session.specs.declared.answer.EditAnswer.{EditAnswer}
 use Rattle.plai_session.specs.declared.answer.EditAnswer.TheVariants as answer
 use Rattle.plai_top.specs.Blocks.{Block, refused, text_of, is_table, texts_from, status_of_blocks, IsBlockOf, AreBlocksOf}
+use Rattle.plai_top.specs.declared.form.Form.{Form}
 use Rattle.plai_top.specs.declared.stop.Stop.{Stop}
 use Rattle.plai_top.specs.declared.stop.Stop.TheVariants.{WriteFault, Memory}
 
@@ -20,25 +21,25 @@ abbrev pub WritesText : Option (List ℕ) → Option (List ℕ) → List ℕ →
 WritesText before after text (Ok _) = Appends before after text
 WritesText before after text (Err stop) = (stop ≡ WriteFault) × ((n : ℕ) × Appends before after (take n text))
 
--- an answer for a program, or for why there is none, with the table of the session
-abbrev pub IsAnswerFor : PlainDomain → ℕ → Option (List TextRow) → EditAnswer → Result ProgramView EditCause → Type 0
-IsAnswerFor p limit table given (Ok program) = IsAnalysed p limit program table given
-IsAnswerFor p limit table given (Err cause) = given ≡ answer.Refused cause
+-- an answer for a program, which is the session's own, or for why there is none, with the table of the session
+abbrev pub IsAnswerFor : PlainDomain → ℕ → ProgramView → Option TextTable → EditAnswer → Result ProgramView EditCause → Type 0
+IsAnswerFor p limit own table given (Ok program) = (own ≡ program) × IsAnalysed p limit program table given
+IsAnswerFor p limit own table given (Err cause) = given ≡ answer.Refused cause
 
 -- the text of a block of it, which shows a table or doesn't
-pub record IsBlockText (p : PlainDomain) (limit number : ℕ) (given : Result ProgramView EditCause) (text : List ℕ) (shows_table : Bool) : Type 0 where
+pub record IsBlockText (form : Form) (p : PlainDomain) (limit number : ℕ) (given : Result ProgramView EditCause) (text : List ℕ) (shows_table : Bool) : Type 0 where
   pub block : Block
   pub is_block : IsBlockOf p limit given block
-  pub is_text : text ≡ text_of number block
+  pub is_text : text ≡ text_of form number block
   pub shows : is_table block ≡ shows_table
 
 -- a block of it was written, all of it, or a write failed behind a prefix of it, or memory was wanting before
-abbrev pub WritesBlock : PlainDomain → ℕ → ℕ → Result ProgramView EditCause → Option (List ℕ) → Option (List ℕ) → Result Bool Stop → Type 0
-WritesBlock p limit number given before after (Ok shows_table) =
-    (text : List ℕ) × IsBlockText p limit number given text shows_table × Appends before after text
-WritesBlock p limit number given before after (Err stop) =
+abbrev pub WritesBlock : Form → PlainDomain → ℕ → ℕ → Result ProgramView EditCause → Option (List ℕ) → Option (List ℕ) → Result Bool Stop → Type 0
+WritesBlock form p limit number given before after (Ok shows_table) =
+    (text : List ℕ) × IsBlockText form p limit number given text shows_table × Appends before after text
+WritesBlock form p limit number given before after (Err stop) =
     ((stop ≡ Memory) × Keeps before after)
-    ⊎ ((stop ≡ WriteFault) × ((text : List ℕ) × (shows_table : Bool) × IsBlockText p limit number given text shows_table × ((n : ℕ) × Appends before after (take n text))))
+    ⊎ ((stop ≡ WriteFault) × ((text : List ℕ) × (shows_table : Bool) × IsBlockText form p limit number given text shows_table × ((n : ℕ) × Appends before after (take n text))))
 
 -- the programs are well formed
 abbrev pub AreFormed : List (Result ProgramView EditCause) → Type 0
@@ -46,33 +47,33 @@ AreFormed givens = All (λ given. IfOk given IsWellFormed) givens
 
 -- Before now blocks of the first of these were written, numbered from 0, and none of those that are left; whether each of them
 -- shows a table.
-pub record Wrote (p : PlainDomain) (limit : ℕ) (givens : List (Result ProgramView EditCause)) (before now : Option (List ℕ))
+pub record Wrote (form : Form) (p : PlainDomain) (limit : ℕ) (givens : List (Result ProgramView EditCause)) (before now : Option (List ℕ))
     (left : List (Result ProgramView EditCause)) (number : ℕ) (are_tables : Bool) : Type 0 where
   pub earlier : List (Result ProgramView EditCause)
   pub written : List Block
   pub parts : givens ≡ earlier ++ left
   pub are : AreBlocksOf p limit earlier written
-  pub bytes : Appends before now (texts_from 0 written)
+  pub bytes : Appends before now (texts_from form 0 written)
   pub formed : AreFormed earlier
   pub count : length written ≡ number
   pub tables : are_tables ≡ list_all is_table written
 
 -- blocks of these were written, all of them, with this status
-pub record AreWritten (p : PlainDomain) (limit : ℕ) (givens : List (Result ProgramView EditCause)) (before after : Option (List ℕ)) (status : ℕ) : Type 0 where
+pub record AreWritten (form : Form) (p : PlainDomain) (limit : ℕ) (givens : List (Result ProgramView EditCause)) (before after : Option (List ℕ)) (status : ℕ) : Type 0 where
   pub blocks : List Block
   pub are : AreBlocksOf p limit givens blocks
   pub formed : AreFormed givens
   pub is_status : status ≡ status_of_blocks blocks
-  pub bytes : Appends before after (texts_from 0 blocks)
+  pub bytes : Appends before after (texts_from form 0 blocks)
 
 -- Blocks of these were written, all of them. Or a write failed or memory was wanting: what was written are then the first
 -- bytes of blocks of these, if there are any.
-abbrev pub WritesBlocks : PlainDomain → ℕ → List (Result ProgramView EditCause) → Option (List ℕ) → Option (List ℕ) → Result ℕ Stop → Type 0
-WritesBlocks p limit givens before after (Ok status) = AreWritten p limit givens before after status
-WritesBlocks p limit givens before after (Err stop) =
+abbrev pub WritesBlocks : Form → PlainDomain → ℕ → List (Result ProgramView EditCause) → Option (List ℕ) → Option (List ℕ) → Result ℕ Stop → Type 0
+WritesBlocks form p limit givens before after (Ok status) = AreWritten form p limit givens before after status
+WritesBlocks form p limit givens before after (Err stop) =
     ((stop ≡ Memory) ⊎ (stop ≡ WriteFault))
     × ((others : List Block) → AreBlocksOf p limit givens others
-    → (blocks : List Block) × AreBlocksOf p limit givens blocks × ((n : ℕ) × Appends before after (take n (texts_from 0 blocks))))
+    → (blocks : List Block) × AreBlocksOf p limit givens blocks × ((n : ℕ) × Appends before after (take n (texts_from form 0 blocks))))
 
 -- whether the block of an answer shows a table
 abbrev pub shows_table : EditAnswer → Bool
@@ -80,8 +81,8 @@ shows_table answer.Table = true
 shows_table _ = false
 
 -- the block of a term that is no edit was written
-abbrev pub WritesRefused : ℕ → EditCause → Option (List ℕ) → Option (List ℕ) → Result Bool Stop → Type 0
-WritesRefused number cause before after (Ok shows) = (shows ≡ false) × Appends before after (text_of number (refused cause))
-WritesRefused number cause before after (Err stop) =
+abbrev pub WritesRefused : Form → ℕ → EditCause → Option (List ℕ) → Option (List ℕ) → Result Bool Stop → Type 0
+WritesRefused form number cause before after (Ok shows) = (shows ≡ false) × Appends before after (text_of form number (refused cause))
+WritesRefused form number cause before after (Err stop) =
     ((stop ≡ Memory) × Keeps before after)
-    ⊎ ((stop ≡ WriteFault) × ((n : ℕ) × Appends before after (take n (text_of number (refused cause)))))
+    ⊎ ((stop ≡ WriteFault) × ((n : ℕ) × Appends before after (take n (text_of form number (refused cause)))))

@@ -32,15 +32,17 @@ pub fn analyse_all<K: Sink, W: Work, L: Ledger>(
 ) -> Result<u8, Stop>
     requires depth { (1 ≤ task.depth) × (task.depth ≤ 8) }
     requires readable { AreReadable items.now }
-    ensures blocks { WritesBlocks (domain_of task) task.rows (Ok program ∷ behind program items.now) (K.taken sink.old) (K.taken sink.new) result }
+    ensures blocks { WritesBlocks task.form (domain_of task) task.rows (Ok program ∷ behind program items.now) (K.taken sink.old) (K.taken sink.new) result }
     ensures later { K.faults sink.old ≤ K.faults sink.new }
     ensures failed { IsErrOf result Stop.WriteFault → Rose (K.faults sink.old) (K.faults sink.new) }
 {
     let limit = task.rows;
+    let form = task.form;
     match task.domain {
         DomainName::Ground => {
             write_blocks(
                 alloc,
+                form,
                 Ground::new(),
                 program,
                 limit,
@@ -53,6 +55,7 @@ pub fn analyse_all<K: Sink, W: Work, L: Ledger>(
         DomainName::Share => {
             write_blocks(
                 alloc,
+                form,
                 ShareFree::new(),
                 program,
                 limit,
@@ -64,7 +67,9 @@ pub fn analyse_all<K: Sink, W: Work, L: Ledger>(
         }
         DomainName::Depth => {
             let domain = DepthK::new(task.depth);
-            write_blocks(alloc, domain, program, limit, items, sink, work, steps)
+            write_blocks(
+                alloc, form, domain, program, limit, items, sink, work, steps,
+            )
         }
     }
 }

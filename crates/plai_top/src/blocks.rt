@@ -1,20 +1,23 @@
 // The blocks of a call: one for the loaded program and one for each edit, written one by one.
-ghost use Rattle.std.specs.Prelude.{◌≡◌, ◌≤◌, ◌⊎◌, ◌∷◌, ◌&&◌, [], ℕ, List, Option, Result, Ok, cond, unwrap_or, IfOk, IfErr, OnOk, IsErrOf};
+ghost use Rattle.std.specs.Prelude.{◌≡◌, ◌≤◌, ◌⊎◌, ◌∷◌, ◌&&◌, [], ℕ, List, Option, Result, Ok, cond, ◌++◌, Some, IfOk, IfErr, OnOk, IsErrOf};
 ghost use Rattle.plai_base.specs.Causes.{Rose};
 ghost use Rattle.plai_clauses.specs.Program.{ProgramView};
 ghost use Rattle.plai_clauses.specs.WellFormed.{IsWellFormed};
 ghost use Rattle.plai_clauses.specs.declared.edit_cause.EditCause.{EditCause};
+ghost use Rattle.plai_render.specs.declared.text_table.TextTable.{TextTable};
 ghost use Rattle.plai_session.specs.Programs.{judged, kept, behind};
 ghost use Rattle.plai_script.specs.Readable.{IsReadableEdit};
+ghost use Rattle.plai_top.specs.Blocks.{rows_text};
 ghost use Rattle.plai_top.specs.Scripts.{AreReadable};
 ghost use Rattle.plai_top.specs.Plans.{IsPlanStop};
 ghost use Rattle.plai_top.specs.Writing.{WritesText, IsAnswerFor, IsBlockText, WritesBlock, WritesRefused, Wrote, WritesBlocks, shows_table};
 
+use crate::form::Form;
+use crate::render::{write_cause, write_limit, write_rows};
 use crate::stop::Stop;
 use plai_base::{Sink, Steps, write_whole};
 use plai_clauses::Program;
 use plai_domain::{Domain, Work};
-use plai_render::{TextRow, render_refused, render_stopped, render_texts};
 use plai_script::{Edit, EditCause};
 use plai_session::{EditAnswer, Session};
 use std::alloc::{AllocError, Global};
@@ -26,19 +29,39 @@ fn shows_table(answer: &EditAnswer) -> bool
     matches!(answer, EditAnswer::Table)
 }
 
-/// The rows of a session's table, none where there is no table.
-fn rows_of<D: Domain>(session: &Session<D>) -> &[TextRow]
-    ensures { result.now ≡ unwrap_or session.now.table [] }
+/// Appends the block of a session's table, if it has one.
+fn render_own<D: Domain>(
+    alloc: Global,
+    form: Form,
+    number: u64,
+    session: &Session<D>,
+    out: &mut Vec<u8>,
+) -> Result<(), AllocError>
+    ensures { OnOk result ((table : TextTable) → session.now.table ≡ Some table
+        → out.new.items ≡ out.old.items ++ rows_text form number table.rows session.now.program.checks table.verdicts) }
 {
+    let checks = session.program().checks();
     match session.table() {
-        Some(rows) => rows,
-        None => &[],
+        Some(table) => {
+            let rows = table.rows.as_slice();
+            write_rows(
+                alloc,
+                form,
+                number,
+                rows,
+                checks,
+                table.verdicts.as_slice(),
+                out,
+            )
+        }
+        None => Ok(()),
     }
 }
 
 /// Appends the text of the block of an answer to nothing.
 fn render_answer<D: Domain>(
     alloc: Global,
+    form: Form,
     number: u64,
     session: &Session<D>,
     answer: &EditAnswer,
@@ -46,30 +69,31 @@ fn render_answer<D: Domain>(
 ) -> Result<(), AllocError>
     requires { text.old.items ≡ [] }
     ensures { OnOk result ((given : Result ProgramView EditCause)
-        → IsAnswerFor (D.plain session.now.domain) session.now.limit session.now.table answer.now given
-        → IsBlockText (D.plain session.now.domain) session.now.limit number given text.new.items (shows_table answer.now)) }
+        → IsAnswerFor (D.plain session.now.domain) session.now.limit session.now.program session.now.table answer.now given
+        → IsBlockText form (D.plain session.now.domain) session.now.limit number given text.new.items (shows_table answer.now)) }
 {
     match answer {
-        EditAnswer::Table => render_texts(alloc, number, rows_of(session), text),
-        EditAnswer::Refused(cause) => render_refused(alloc, number, cause, text),
-        EditAnswer::StoppedRows(rows) => render_stopped(alloc, number, Some(*rows), text),
-        EditAnswer::StoppedGroups { .. } => render_stopped(alloc, number, None, text),
+        EditAnswer::Table => render_own(alloc, form, number, session, text),
+        EditAnswer::Refused(cause) => write_cause(alloc, form, number, cause, text),
+        EditAnswer::StoppedRows(rows) => write_limit(alloc, form, number, Some(*rows), text),
+        EditAnswer::StoppedGroups { .. } => write_limit(alloc, form, number, None, text),
     }
 }
 
 /// The text of the block of an answer.
 fn block_text<D: Domain>(
     alloc: Global,
+    form: Form,
     number: u64,
     session: &Session<D>,
     answer: &EditAnswer,
 ) -> Result<Vec<u8>, AllocError>
     ensures { IfOk result (λ text. (given : Result ProgramView EditCause)
-        → IsAnswerFor (D.plain session.now.domain) session.now.limit session.now.table answer.now given
-        → IsBlockText (D.plain session.now.domain) session.now.limit number given text.items (shows_table answer.now)) }
+        → IsAnswerFor (D.plain session.now.domain) session.now.limit session.now.program session.now.table answer.now given
+        → IsBlockText form (D.plain session.now.domain) session.now.limit number given text.items (shows_table answer.now)) }
 {
     let mut text = Vec::new(alloc);
-    render_answer(alloc, number, session, answer, &mut text)?;
+    render_answer(alloc, form, number, session, answer, &mut text)?;
     Ok(text)
 }
 
@@ -88,19 +112,20 @@ fn write_text<K: Sink>(sink: &mut K, text: &[u8]) -> Result<(), Stop>
 /// Writes the block of an answer, and says whether it shows a table.
 fn write_answer<D: Domain, K: Sink>(
     alloc: Global,
+    form: Form,
     number: u64,
     session: &Session<D>,
     answer: &EditAnswer,
     sink: &mut K,
 ) -> Result<bool, Stop>
     ensures block { (given : Result ProgramView EditCause)
-        → IsAnswerFor (D.plain session.now.domain) session.now.limit session.now.table answer.now given
-        → WritesBlock (D.plain session.now.domain) session.now.limit number given (K.taken sink.old) (K.taken sink.new) result }
+        → IsAnswerFor (D.plain session.now.domain) session.now.limit session.now.program session.now.table answer.now given
+        → WritesBlock form (D.plain session.now.domain) session.now.limit number given (K.taken sink.old) (K.taken sink.new) result }
     ensures stop { IfErr result IsPlanStop }
     ensures later { K.faults sink.old ≤ K.faults sink.new }
     ensures failed { IsErrOf result Stop.WriteFault → Rose (K.faults sink.old) (K.faults sink.new) }
 {
-    match block_text(alloc, number, session, answer) {
+    match block_text(alloc, form, number, session, answer) {
         Ok(text) => match write_text(sink, text.as_slice()) {
             Ok(()) => Ok(shows_table(answer)),
             Err(stop) => Err(stop),
@@ -112,17 +137,18 @@ fn write_answer<D: Domain, K: Sink>(
 /// Writes the block of a term of the script that is no edit.
 fn write_refused<K: Sink>(
     alloc: Global,
+    form: Form,
     number: u64,
     cause: &EditCause,
     sink: &mut K,
 ) -> Result<bool, Stop>
-    ensures block { WritesRefused number cause.now (K.taken sink.old) (K.taken sink.new) result }
+    ensures block { WritesRefused form number cause.now (K.taken sink.old) (K.taken sink.new) result }
     ensures stop { IfErr result IsPlanStop }
     ensures later { K.faults sink.old ≤ K.faults sink.new }
     ensures failed { IsErrOf result Stop.WriteFault → Rose (K.faults sink.old) (K.faults sink.new) }
 {
     let mut text = Vec::new(alloc);
-    match render_refused(alloc, number, cause, &mut text) {
+    match write_cause(alloc, form, number, cause, &mut text) {
         Ok(()) => match write_text(sink, text.as_slice()) {
             Ok(()) => Ok(false),
             Err(stop) => Err(stop),
@@ -134,6 +160,7 @@ fn write_refused<K: Sink>(
 /// Carries out the item of the script with this number and writes its block.
 fn write_item<D: Domain, K: Sink, W: Work, L: Ledger>(
     alloc: Global,
+    form: Form,
     number: u64,
     session: &mut Session<D>,
     item: &Result<Edit, EditCause>,
@@ -142,7 +169,7 @@ fn write_item<D: Domain, K: Sink, W: Work, L: Ledger>(
     steps: &mut Steps<L>,
 ) -> Result<bool, Stop>
     requires { IfOk item.now IsReadableEdit }
-    ensures block { WritesBlock (D.plain session.old.domain) session.old.limit number (judged session.old.program item.now) (K.taken sink.old) (K.taken sink.new) result }
+    ensures block { WritesBlock form (D.plain session.old.domain) session.old.limit number (judged session.old.program item.now) (K.taken sink.old) (K.taken sink.new) result }
     ensures formed { OnOk result (IsWellFormed session.new.program) }
     ensures program { OnOk result (session.new.program ≡ kept session.old.program (judged session.old.program item.now)) }
     ensures stop { IfErr result IsPlanStop }
@@ -154,13 +181,13 @@ fn write_item<D: Domain, K: Sink, W: Work, L: Ledger>(
         Ok(edit) => match session.edit(alloc, number, edit, work, steps) {
             Ok(answer) => {
                 session.program().is_program();
-                write_answer(alloc, number, session, &answer, sink)
+                write_answer(alloc, form, number, session, &answer, sink)
             }
             Err(_) => Err(Stop::Memory),
         },
         Err(cause) => {
             session.program().is_program();
-            write_refused(alloc, number, cause, sink)
+            write_refused(alloc, form, number, cause, sink)
         }
     }
 }
@@ -181,6 +208,7 @@ fn status(are_tables: bool) -> u8
 /// before the next is begun.
 fn write_items<D: Domain, K: Sink, W: Work, L: Ledger>(
     alloc: Global,
+    form: Form,
     session: Session<D>,
     is_table: bool,
     items: &[Result<Edit, EditCause>],
@@ -190,8 +218,8 @@ fn write_items<D: Domain, K: Sink, W: Work, L: Ledger>(
 ) -> Result<u8, Stop>
     requires { AreReadable items.now }
     ensures blocks { (givens : List (Result ProgramView EditCause)) (before : Option (List ℕ))
-        → Wrote (D.plain session.domain) session.limit givens before (K.taken sink.old) (behind session.program items.now) 1 is_table
-        → WritesBlocks (D.plain session.domain) session.limit givens before (K.taken sink.new) result }
+        → Wrote form (D.plain session.domain) session.limit givens before (K.taken sink.old) (behind session.program items.now) 1 is_table
+        → WritesBlocks form (D.plain session.domain) session.limit givens before (K.taken sink.new) result }
     ensures status { IfOk result (λ status. (status ≡ 0) ⊎ (status ≡ 1)) }
     ensures stop { IfErr result IsPlanStop }
     ensures later { K.faults sink.old ≤ K.faults sink.new }
@@ -201,7 +229,7 @@ fn write_items<D: Domain, K: Sink, W: Work, L: Ledger>(
     let mut are_tables = is_table;
     let mut number: u64 = 1;
     for item in items {
-        match write_item(alloc, number, &mut session, item, sink, work, steps) {
+        match write_item(alloc, form, number, &mut session, item, sink, work, steps) {
             Ok(shows_table) => are_tables = both(are_tables, shows_table),
             Err(stop) => return Err(stop),
         }
@@ -214,6 +242,7 @@ fn write_items<D: Domain, K: Sink, W: Work, L: Ledger>(
 /// 0 where each block shows a table, else 1.
 pub fn write_blocks<D: Domain, K: Sink, W: Work, L: Ledger>(
     alloc: Global,
+    form: Form,
     domain: D,
     program: Program,
     limit: u64,
@@ -223,7 +252,7 @@ pub fn write_blocks<D: Domain, K: Sink, W: Work, L: Ledger>(
     steps: &mut Steps<L>,
 ) -> Result<u8, Stop>
     requires { AreReadable items.now }
-    ensures blocks { WritesBlocks (D.plain domain) limit (Ok program ∷ behind program items.now) (K.taken sink.old) (K.taken sink.new) result }
+    ensures blocks { WritesBlocks form (D.plain domain) limit (Ok program ∷ behind program items.now) (K.taken sink.old) (K.taken sink.new) result }
     ensures status { IfOk result (λ status. (status ≡ 0) ⊎ (status ≡ 1)) }
     ensures stop { IfErr result IsPlanStop }
     ensures later { K.faults sink.old ≤ K.faults sink.new }
@@ -231,8 +260,8 @@ pub fn write_blocks<D: Domain, K: Sink, W: Work, L: Ledger>(
 {
     program.is_program();
     match Session::open(alloc, domain, program, limit, work, steps) {
-        Ok((session, answer)) => match write_answer(alloc, 0, &session, &answer, sink) {
-            Ok(is_table) => write_items(alloc, session, is_table, items, sink, work, steps),
+        Ok((session, answer)) => match write_answer(alloc, form, 0, &session, &answer, sink) {
+            Ok(is_table) => write_items(alloc, form, session, is_table, items, sink, work, steps),
             Err(stop) => Err(stop),
         },
         Err(_) => Err(Stop::Memory),

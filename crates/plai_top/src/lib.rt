@@ -4,11 +4,13 @@
 mod analysis;
 mod blocks;
 mod command;
+mod form;
 mod input;
 mod laws;
 mod loading;
 mod plan;
 mod refusal;
+mod render;
 mod script;
 mod stop;
 mod task;

@@ -1,15 +1,13 @@
 // What the files are loaded to.
-ghost use Rattle.std.specs.Prelude.{◌≡◌, ◌≤◌, ◌⊎◌, Ok, false, All, IfOk, IfErr, length, map};
+ghost use Rattle.std.specs.Prelude.{◌≡◌, ◌≤◌, All, IfOk, IfErr, length, map};
 ghost use Rattle.plai_base.specs.Texts.{longest_text};
-ghost use Rattle.plai_clauses.specs.Program.{ProgramView};
-ghost use Rattle.plai_modules.specs.Loading.{loaded};
-ghost use Rattle.plai_top.specs.Files.{name_at, has_no_checks, is_built_program};
+ghost use Rattle.plai_top.specs.Files.{name_at};
 ghost use Rattle.plai_top.specs.Loadings.{IsLoading, HasLine};
 ghost use Rattle.plai_top.specs.Refusal.{refusal_text};
 
 use crate::refusal::refusal_line;
 use crate::stop::Stop;
-use plai_clauses::{Check, Program};
+use plai_clauses::Program;
 use plai_modules::{LoadCause, LoadFail, NamedText, load};
 use plai_terms::Name;
 use std::alloc::{AllocError, Global};
@@ -17,23 +15,10 @@ use std::alloc::{AllocError, Global};
 /// What the files are loaded to.
 #[derive(Debug, Drop)]
 pub enum Loading {
-    /// A program that is analysed as yet.
+    /// A program.
     Program(Program),
     /// A refusal, by its line.
     Refused(Vec<u8>),
-}
-
-fn has_no_checks(checks: &[Check]) -> bool
-    ensures { result ≡ has_no_checks checks.now }
-{
-    checks.is_empty()
-}
-
-/// Whether the program is analysed as yet.
-fn is_built(program: &Program) -> bool
-    ensures { result ≡ is_built_program program.now }
-{
-    has_no_checks(program.checks())
 }
 
 /// The line of a refusal in the file of that number, from 1.
@@ -62,17 +47,10 @@ pub fn load_files(alloc: Global, files: &[NamedText]) -> Result<Loading, Stop>
     requires short { All (λ f. length f.text ≤ longest_text) files.now }
     ensures loading { IfOk result (λ loading. IsLoading (map (λ f. f.name) files.now) (map (λ f. f.text) files.now) loading) }
     ensures line { IfOk result HasLine }
-    ensures stop { IfErr result (λ stop. (stop ≡ Stop.Memory) ⊎
-        ((stop ≡ Stop.NotBuilt) × ((program : ProgramView) × (loaded (map (λ f. f.text) files.now) ≡ Ok program) × (is_built_program program ≡ false)))) }
+    ensures stop { IfErr result (λ stop. stop ≡ Stop.Memory) }
 {
     match load(alloc, files) {
-        Ok(program) => {
-            if is_built(&program) {
-                Ok(Loading::Program(program))
-            } else {
-                Err(Stop::NotBuilt)
-            }
-        }
+        Ok(program) => Ok(Loading::Program(program)),
         Err(LoadFail::Refused { file, term, cause }) => {
             match line_of(alloc, files, file, term, &cause) {
                 Ok(line) => Ok(Loading::Refused(line)),

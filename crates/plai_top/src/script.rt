@@ -1,17 +1,16 @@
 // The script: its text, its tokens, and its edits.
-ghost use Rattle.std.specs.Prelude.{◌≡◌, ◌≤◌, ◌<◌, ◌⊎◌, true, false, length, IfOk, IfErr, IfSome, OnOk, IsErrOf};
+ghost use Rattle.std.specs.Prelude.{◌≡◌, ◌≤◌, ◌<◌, ◌⊎◌, length, IfOk, IfErr, IfSome, OnOk, IsErrOf};
 ghost use Rattle.std.specs.Io.KnownBytes.{IsAtEnd};
 ghost use Rattle.plai_base.specs.Causes.{Rose};
-ghost use Rattle.plai_script.specs.Checks.{is_without_checks};
 ghost use Rattle.plai_top.specs.Outcome.{IsByScript, longest_script, silent};
-ghost use Rattle.plai_top.specs.Plans.{IsScriptStop};
+ghost use Rattle.plai_top.specs.Plans.{IsInputStop};
 ghost use Rattle.plai_top.specs.Scripts.{IsScriptOf, HasScriptLine, HasReadableEdits};
 ghost use Rattle.plai_top.specs.Stops.{status_of, IsReadEnd};
 
 use crate::refusal::script_refusal_line;
 use crate::stop::Stop;
 use plai_base::{ReadFail, Source, read_whole};
-use plai_script::{Edit, EditCause, ScriptFail, is_without_checks, read_script};
+use plai_script::{Edit, EditCause, ScriptFail, read_script};
 use std::alloc::Global;
 
 /// The most bytes of the script: 16 mebibytes.
@@ -44,18 +43,6 @@ fn read_text<S: Source>(alloc: Global, script: &mut S) -> Result<Vec<u8>, Stop>
     }
 }
 
-/// The edits of a script, if it is carried out as yet.
-fn built(items: Vec<Result<Edit, EditCause>>) -> Result<Script, Stop>
-    ensures edits { IfOk result (λ script. (script ≡ Script.Edits items) × (is_without_checks items.items ≡ true)) }
-    ensures stop { IfErr result (λ stop. (stop ≡ Stop.NotBuilt) × (is_without_checks items.items ≡ false)) }
-{
-    if is_without_checks(&items) {
-        Ok(Script::Edits(items))
-    } else {
-        Err(Stop::NotBuilt)
-    }
-}
-
 /// What the text says.
 fn script_of(alloc: Global, text: &[u8]) -> Result<Script, Stop>
     requires { length text.now ≤ longest_script }
@@ -65,7 +52,7 @@ fn script_of(alloc: Global, text: &[u8]) -> Result<Script, Stop>
     ensures stop { IfErr result (λ stop. (stop ≡ Stop.Memory) ⊎ IsByScript text.now (silent (status_of stop))) }
 {
     match read_script(alloc, text) {
-        Ok(items) => built(items),
+        Ok(items) => Ok(Script::Edits(items)),
         Err(ScriptFail::Lex { term, cause, at }) => match script_refusal_line(
             alloc, term, cause, at,
         ) {
@@ -83,7 +70,7 @@ pub fn read_edits<S: Source>(alloc: Global, script: &mut S) -> Result<Script, St
     ensures readable { IfOk result HasReadableEdits }
     ensures end { OnOk result (IsAtEnd (S.left script.new)) }
     ensures stop { IfErr result (λ stop. IsReadEnd stop ⊎ IfSome (S.left script.old) (λ text. IsByScript text (silent (status_of stop)))) }
-    ensures which { IfErr result IsScriptStop }
+    ensures which { IfErr result IsInputStop }
     ensures later { S.faults script.old ≤ S.faults script.new }
     ensures failed { IsErrOf result Stop.ReadFault → Rose (S.faults script.old) (S.faults script.new) }
 {

@@ -15,8 +15,6 @@ pub enum Stop {
     WriteFault,
     /// Memory is wanting.
     Memory,
-    /// The words, the program or the script have a form that isn't taken yet.
-    NotBuilt,
 }
 
 impl Stop {
@@ -30,7 +28,6 @@ impl Stop {
             Stop::ReadFault => 5,
             Stop::WriteFault => 6,
             Stop::Memory => 7,
-            Stop::NotBuilt => 8,
         }
     }
 }

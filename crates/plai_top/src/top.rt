@@ -3,9 +3,10 @@ ghost use Rattle.std.specs.Prelude.{◌≡◌, ◌≤◌, ◌⊎◌, None, IfSom
 ghost use Rattle.std.specs.Io.KnownBytes.{Keeps, IsAtEnd};
 ghost use Rattle.plai_base.specs.Causes.{Rose};
 ghost use Rattle.plai_words.specs.Command.{settings_of, texts};
-ghost use Rattle.plai_top.specs.Ending.{IsFaultOrComes, EndsByEach, EndsByWords, EndsEarly, IsSilent, IsBeforeWork, IsStatus};
+ghost use Rattle.plai_top.specs.Commands.{AskForMade};
+ghost use Rattle.plai_top.specs.Ending.{IsFaultOrComes, EndsByEach, EndsMade, EndsByWords, EndsEarly, IsSilent, IsBeforeWork, IsStatus};
 ghost use Rattle.plai_top.specs.Headline.{TakesPromised};
-ghost use Rattle.plai_top.specs.Outcome.{Outcome, IsByWords, IsEarly, OutcomeIsOne};
+ghost use Rattle.plai_top.specs.Outcome.{Outcome, IsByWords, IsEarly, IsOutcome, OutcomeIsOne};
 ghost use Rattle.plai_top.specs.Plans.{IsFitPlan, HasAnalysis, CarriesOut, IsPlanStatus, IsPlanStop};
 ghost use Rattle.plai_top.specs.Told.{IfBothTold};
 
@@ -58,8 +59,10 @@ fn carry_out<K: Sink, W: Work, L: Ledger>(
 }
 
 /// Analyses the files that the words name, and what the edits of the script make of them, under the domain that the words name,
-/// and writes a block for each: the least table, the limit that the analysis met, or why the edit is refused. A block is written
-/// before the next edit is begun. The answer is the program's status, from 0 to 8.
+/// and writes a block for each: the least table with its verdicts on the program's assertions, the limit that the analysis met,
+/// or why the edit is refused. Where the words ask for it, it analyses a made program and 50 edits on it instead, and writes a
+/// line for each, which counts the rows. A block is written before the next edit is begun. The answer is the program's status,
+/// from 0 to 7.
 ///
 /// | Status | Comes |
 /// |---|---|
@@ -71,7 +74,6 @@ fn carry_out<K: Sink, W: Work, L: Ledger>(
 /// | 5 | the library or the script failed; nothing was written |
 /// | 6 | the sink failed; a part of the output was written |
 /// | 7 | memory is wanting; a part of the output was written |
-/// | 8 | the words have `--make`, the loaded program has a check, or the script has an edit of a check: forms that aren't taken yet; nothing was written |
 pub fn run<B: Library, S: Source, K: Sink, W: Work, L: Ledger>(
     alloc: Global,
     words: &[&str],
@@ -84,18 +86,24 @@ pub fn run<B: Library, S: Source, K: Sink, W: Work, L: Ledger>(
     // Where both tell, the answer is the status of an outcome, and the sink took that outcome's bytes, if no
     // fault came and there was memory.
     ensures whole { IfBothTold (B.files library.old) (S.left script.old) (λ files text.
-        IsFaultOrComes (texts words.now) files text result (K.taken sink.old) (K.taken sink.new)) }
+        IsFaultOrComes (IsOutcome (texts words.now) files text) result (K.taken sink.old) (K.taken sink.new)) }
 
     // At 0 and 1, where both tell, each block that shows a table is that of the least table of its program under the domain that
     // the words name, and every call and every answer in every left-to-right resolution, of any number of steps from a described
-    // goal, is described by one printed row.
+    // goal, is described by one printed row. What is printed as `checked` holds in all of them: of each call, or of each answer
+    // to a call that had what is demanded of calls. What is printed as `false` holds of none of these.
     ensures described { IfBothTold (B.files library.old) (S.left script.old) (λ files text. (result ≡ 0) ⊎ (result ≡ 1)
         → TakesPromised (texts words.now) files text (K.taken sink.old) (K.taken sink.new)) }
+
+    // Words that ask for a made program have an outcome that depends on nothing else, and nothing is read.
+    ensures made { EndsMade (texts words.now) result (K.taken sink.old) (K.taken sink.new) }
+    ensures unread_made { AskForMade (texts words.now) → (B.faults library.new ≡ B.faults library.old)
+        × (S.left script.new ≡ S.left script.old) × (S.faults script.new ≡ S.faults script.old) }
 
     // Whatever the outcome is, the call ended by it, or by one with stops in the place of some of its blocks: at a fault too no
     // other byte was written.
     ensures every { IfBothTold (B.files library.old) (S.left script.old) (λ files text.
-        EndsByEach (texts words.now) files text result (K.taken sink.old) (K.taken sink.new)) }
+        EndsByEach (IsOutcome (texts words.now) files text) result (K.taken sink.old) (K.taken sink.new)) }
 
     // What the words decide comes before the files, and what the files decide before the script.
     ensures refused { EndsByWords (texts words.now) result }
@@ -117,8 +125,8 @@ pub fn run<B: Library, S: Source, K: Sink, W: Work, L: Ledger>(
     ensures unread_script { IfSome (B.files library.old) (λ files. (outcome : Outcome) → IsEarly (texts words.now) files outcome
         → (S.left script.new ≡ S.left script.old) × (S.faults script.new ≡ S.faults script.old)) }
 
-    // At 0 and 1 the script was read to its end, and at a status without output nothing was written.
-    ensures end { (result ≡ 0) ⊎ (result ≡ 1) → IsAtEnd (S.left script.new) }
+    // At 0 and 1 the script was read to its end, where no program is made, and at a status without output nothing was written.
+    ensures end { (result ≡ 0) ⊎ (result ≡ 1) → IsAtEnd (S.left script.new) ⊎ AskForMade (texts words.now) }
     ensures nothing { IsSilent result → Keeps (K.taken sink.old) (K.taken sink.new) }
 
     // Work and steps are those of the analysis.

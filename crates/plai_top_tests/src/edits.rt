@@ -60,15 +60,13 @@ fn blocks_of_edits(rt: HostRuntime) -> Result<(), Fail> {
 #[test]
 fn scripts_that_are_not_carried_out(rt: HostRuntime) -> Result<(), Fail> {
     let alloc = rt.alloc();
-    let cases: [(&[u8], u8, &[u8]); 4] = [
+    let cases: [(&[u8], u8, &[u8]); 2] = [
         (
             b"add(m,q(b)). add(m,'x",
             3,
             b"refused script 2 open_quote 19\n",
         ),
         (b"foo. 0'", 3, b"refused script 2 bad_escape 5\n"),
-        (b"check(m,(success p(X)=>ground(X))).", 8, b""),
-        (b"all([uncheck(m,1)]).", 8, b""),
     ];
     let files: [File<'_>; 1] = [("a.pl", FACT)];
     for (script, status, want) in cases {

@@ -6,6 +6,8 @@ mod depths;
 #[cfg(test)]
 mod edits;
 #[cfg(test)]
+mod made;
+#[cfg(test)]
 mod refusals;
 #[cfg(test)]
 mod sharing;
@@ -13,5 +15,7 @@ mod sharing;
 mod statuses;
 #[cfg(test)]
 mod tables;
+#[cfg(test)]
+mod verdicts;
 #[cfg(test)]
 mod world;

@@ -26,7 +26,7 @@ fn words_and_limits(rt: HostRuntime) -> Result<(), Fail> {
     let shared =
         b"edit 0\nrow m:p/0 call sh={} fr={} answer sh={} fr={}\nrow m:q/0 call sh={} fr={} answer sh={} fr={}\nend\n";
     let cut = b"edit 0\nrow m:p/0 call () answer ()\nrow m:q/0 call () answer ()\nend\n";
-    let cases: [(&[&str], u8, &[u8]); 20] = [
+    let cases: [(&[&str], u8, &[u8]); 19] = [
         (&[], 2, b""),
         (&["-x"], 2, b""),
         (&["--domain", "sharing", "a.pl"], 2, b""),
@@ -38,7 +38,6 @@ fn words_and_limits(rt: HostRuntime) -> Result<(), Fail> {
         (&["--dom", "share", "a.pl"], 2, b""),
         (&["a.pl", "--domain=share"], 0, shared),
         (&["--domain", "depth", "a.pl"], 0, cut),
-        (&["--make", "5"], 8, b""),
         (&["--rows", "007", "a.pl"], 0, rows),
         (&["--depth=2", "--domain=ground", "a.pl"], 0, rows),
         (&["--", "--x.pl"], 0, b"edit 0\nend\n"),
@@ -49,7 +48,7 @@ fn words_and_limits(rt: HostRuntime) -> Result<(), Fail> {
         ),
         (&["a.pl", "--rows=2"], 0, rows),
         (&["a.pl", "a.pl"], 3, b"refused 'a.pl' 1 duplicate_module\n"),
-        (&["check.pl"], 8, b""),
+        (&["check.pl"], 0, b"edit 0\ncheck m 1 checked\nend\n"),
         (&["none.pl"], 3, b"refused 'none.pl' 1 no_module\n"),
     ];
     let files: [File<'_>; 3] = [

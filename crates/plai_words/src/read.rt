@@ -91,10 +91,12 @@ fn complete(
     files: Vec<Text>,
 ) -> Result<Settings, WordsFail>
     requires depth { IfSome depth (λ n. (1 ≤ n) × (n ≤ 8)) }
+    requires make { IfSome make (λ n. (1 ≤ n) × (n ≤ 2000)) }
     ensures settings { MatchResult result
         (λ s. completed (noted domain depth rows make files.items) ≡ Some s)
         (λ e. (e ≡ WordsFail.Refused) × (completed (noted domain depth rows make files.items) ≡ None)) }
     ensures depth { IfOk result (λ s. (1 ≤ s.depth) × (s.depth ≤ 8)) }
+    ensures make { IfOk result (λ s. IfSome s.make (λ n. (1 ≤ n) × (n ≤ 2000))) }
 {
     if make.is_some() != files.as_slice().is_empty() {
         return Err(WordsFail::Refused);
@@ -113,6 +115,7 @@ fn settings_from(alloc: Global, matches: &ArgMatches) -> Result<Settings, WordsF
     ensures ok { IfOk result (λ s. settings_in (rows_of (found_of matches.now)) ≡ Some s) }
     ensures refused { IsErrOf result WordsFail.Refused → settings_in (rows_of (found_of matches.now)) ≡ None }
     ensures depth { IfOk result (λ s. (1 ≤ s.depth) × (s.depth ≤ 8)) }
+    ensures make { IfOk result (λ s. IfSome s.make (λ n. (1 ≤ n) × (n ≤ 2000))) }
 {
     let domain = domain_given(matches.get_str(DOMAIN))?;
     let depth = number_given(MAX_DEPTH, matches.get_str(DEPTH))?;
@@ -149,6 +152,7 @@ pub fn settings(alloc: Global, words: &[&str]) -> Result<Settings, WordsFail>
     ensures ok { IfOk result (λ s. settings_of (texts words.now) ≡ Some s) }
     ensures refused { IsErrOf result WordsFail.Refused → settings_of (texts words.now) ≡ None }
     ensures depth { IfOk result (λ s. (1 ≤ s.depth) × (s.depth ≤ 8)) }
+    ensures make { IfOk result (λ s. IfSome s.make (λ n. (1 ≤ n) × (n ≤ 2000))) }
 {
     if has_bundle(words) {
         return Err(WordsFail::Refused);

@@ -1,11 +1,15 @@
-use Rattle.std.proofs.Common.{◌≡◌, ◌+◌, ◌*◌, ◌++◌, refl, ap, ◌∙◌, rules, arith}
+use Rattle.std.proofs.Common.{◌≡◌, ◌+◌, ◌*◌, refl, ap, ◌∙◌, arith}
 use Rattle.plai_make.specs.Draws.{state_at, chosen, draw}
-use Rattle.plai_make.specs.Texts.{clauses_text, drawn_clauses}
-use Rattle.plai_make.proofs.Steps.{first_state, one_further, more_text}
+use Rattle.plai_make.proofs.Steps.{first_state, one_further, no_preds, one_pred}
 use Rattle.plai_make.proofs.program.made_program.Goals as goal
 
 pub loop-number-init : goal.loop-number-init
-loop-number-init c = record { few = omega arith; value = first_state c.args.count; text = search rules }
+loop-number-init c = record {
+  few = omega arith;
+  value = first_state c.args.count;
+  program = c.in_ok-program.ensures ∙ no_preds c.args.count;
+  home = ap (λ p. p.modules) c.in_ok-program.ensures;
+}
 
 pub loop-number-preserved : goal.loop-number-preserved
 loop-number-preserved c =
@@ -19,6 +23,6 @@ loop-number-preserved c =
     record {
       few = c.following-second.ensures.few;
       value = second ∙ ap (state_at c.args.count) (omega arith);
-      text = more_text (drawn_clauses c.args.count) c.in_ok-text.text.items c.loop-number.text.items c.write_clauses.new.out.items n c.loop-number.invariant.text
-          (c.in_ok-write_clauses.ensures ∙ (λ i. c.loop-number.text.items ++ clauses_text n (left i) (right i)));
+      program = c.in_ok-add_pred.ensures ∙ one_pred c.args.count n c.chosen.result c.chosen-in-loop-number.result c.loop-number.program c.loop-number.invariant.program left right;
+      home = ap (λ p. p.modules) c.in_ok-add_pred.ensures ∙ c.loop-number.invariant.home;
     }

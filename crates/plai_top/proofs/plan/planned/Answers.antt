@@ -1,40 +1,35 @@
-use Rattle.std.proofs.Common.{refl, ap, Err}
+use Rattle.std.proofs.Common.{subst}
 use Rattle.plai_base.specs.Causes.{Rose}
 use Rattle.plai_words.specs.Command.{texts}
-use Rattle.plai_top.proofs.Deciding.{as_program, as_line, stop_outcome, line_outcome, script_plan, program_keeps_early, program_unread, line_keeps_early, stop_keeps_early}
+use Rattle.plai_top.specs.Commands.{IsCommandOf}
+use Rattle.plai_top.proofs.Deciding.{made_outcome, made_keeps_early, made_keeps_words, words_decide, words_never_fail, stop_outcome, stop_keeps_early}
+use Rattle.plai_top.proofs.Made.{files_keep_made, words_keep_made}
 use Rattle.plai_top.proofs.plan.planned.Goals as goal
 
-pub returns-in-Program-clause-outcome : goal.returns-in-Program-clause-outcome
-returns-in-Program-clause-outcome g c =
-    let told = g.B.Library.files c.args.library.now in
-    let words = texts c.args.words.now in
-    let made = c.in-Ok.field-0 in
-    script_plan words made.task c.in-Program.program told (g.S.Source.left c.args.script.now) c.with_script.result
-    (as_program words told made c.in-Ok.ensures.outcome made.task c.in-Program.program refl c.in-Program.is) c.with_script.ensures.plan
+pub returns-in-Ok-Make-clause-outcome : goal.returns-in-Ok-Make-clause-outcome
+returns-in-Ok-Make-clause-outcome g c =
+    let own = c.in-Ok-Make in
+    made_outcome (texts c.args.words.now) own.settings own.count (subst (IsCommandOf (texts c.args.words.now)) own.field-0-is own.ensures.command)
+    (g.B.Library.files c.args.library.now) (g.S.Source.left c.args.script.now) c.over_made.result c.over_made.ensures.plan
 
-pub returns-in-Program-clause-early : goal.returns-in-Program-clause-early
-returns-in-Program-clause-early g c =
-    let told = g.B.Library.files c.args.library.now in
-    let words = texts c.args.words.now in
-    let made = c.in-Ok.field-0 in
-    program_keeps_early words made.task c.in-Program.program told c.with_script.result (Rose (g.B.Library.faults c.args.library.now) (g.B.Library.faults c.prepare.new.library))
-    (as_program words told made c.in-Ok.ensures.outcome made.task c.in-Program.program refl c.in-Program.is)
+pub returns-in-Ok-Make-clause-early : goal.returns-in-Ok-Make-clause-early
+returns-in-Ok-Make-clause-early g c =
+    let own = c.in-Ok-Make in
+    made_keeps_early (texts c.args.words.now) own.settings own.count (subst (IsCommandOf (texts c.args.words.now)) own.field-0-is own.ensures.command)
+    (g.B.Library.files c.args.library.now) c.over_made.result (Rose (g.B.Library.faults c.args.library.now) (g.B.Library.faults c.args.library.now))
 
-pub returns-in-Program-clause-unread_script : goal.returns-in-Program-clause-unread_script
-returns-in-Program-clause-unread_script g c =
-    let told = g.B.Library.files c.args.library.now in
-    let words = texts c.args.words.now in
-    let made = c.in-Ok.field-0 in
-    program_unread words made.task c.in-Program.program told _ (as_program words told made c.in-Ok.ensures.outcome made.task c.in-Program.program refl c.in-Program.is)
-
-pub returns-in-Refused-clause-outcome : goal.returns-in-Refused-clause-outcome
-returns-in-Refused-clause-outcome g c =
-    let told = g.B.Library.files c.args.library.now in
-    let words = texts c.args.words.now in
-    line_outcome words told _ _ (as_line words told c.in-Ok.field-0 c.in-Ok.ensures.outcome c.in-Refused.bytes c.in-Refused.is)
+pub returns-in-Ok-Make-clause-words : goal.returns-in-Ok-Make-clause-words
+returns-in-Ok-Make-clause-words g c =
+    let own = c.in-Ok-Make in
+    made_keeps_words (texts c.args.words.now) own.settings own.count (subst (IsCommandOf (texts c.args.words.now)) own.field-0-is own.ensures.command) _ c.over_made.result
 
 pub returns-in-Err-clause-outcome : goal.returns-in-Err-clause-outcome
-returns-in-Err-clause-outcome g c = stop_outcome _ (g.B.Library.files c.args.library.now) _ _ c.in-Err.ensures.outcome
+returns-in-Err-clause-outcome g c =
+    let told = g.B.Library.files c.args.library.now in
+    stop_outcome (texts c.args.words.now) told (g.S.Source.left c.args.script.now) c.in-Err.stop (words_decide (texts c.args.words.now) told c.in-Err.stop c.in-Err.ensures.stop)
 
 pub returns-in-Err-clause-early : goal.returns-in-Err-clause-early
-returns-in-Err-clause-early g c = stop_keeps_early _ (g.B.Library.files c.args.library.now) _ _ c.in-Err.ensures.outcome (λ e. c.in-Err.ensures.failed (ap Err e))
+returns-in-Err-clause-early g c =
+    let told = g.B.Library.files c.args.library.now in
+    stop_keeps_early (texts c.args.words.now) told c.in-Err.stop _ (words_decide (texts c.args.words.now) told c.in-Err.stop c.in-Err.ensures.stop)
+    (λ e. absurd (words_never_fail (texts c.args.words.now) c.in-Err.stop c.in-Err.ensures.stop e))

@@ -1,6 +1,11 @@
+use Rattle.std.proofs.Common.{◌≡◌, ◌⊎◌, IfSome, sym, subst}
 use Rattle.plai_base.specs.Causes.{Rose}
 use Rattle.plai_words.specs.Command.{texts}
+use Rattle.plai_top.specs.Ending.{EndsEarly, EndsMade}
+use Rattle.plai_top.specs.Headline.{TakesPromised}
+use Rattle.plai_top.specs.Told.{IfBothTold}
 use Rattle.plai_top.proofs.Endings.{plan_whole, plan_every, plan_early, cut_whole, cut_every, cut_early, stopped_whole, stopped_every, stopped_early}
+use Rattle.plai_top.proofs.Made.{plan_made, cut_made, stopped_made}
 use Rattle.plai_top.proofs.Headline.{plan_promised, stop_promises}
 use Rattle.plai_top.proofs.top.run.Goals as goal
 
@@ -24,3 +29,39 @@ pub returns-in-Ok-carry_out-clause-described : goal.returns-in-Ok-carry_out-clau
 returns-in-Ok-carry_out-clause-described g c =
     plan_promised c.printed_rows_describe_runs.ensures (texts c.args.words.now) (g.K.Sink.taken c.args.sink.now) (g.K.Sink.taken c.carry_out.new.sink)
     (g.B.Library.files c.args.library.now) (g.S.Source.left c.args.script.now) c.in-Ok.plan c.in-Ok-carry_out.status c.in-Ok.ensures.outcome c.in-Ok.ensures.fit c.in-Ok-carry_out.ensures.written
+
+pub returns-in-Ok-carry_out-clause-made : goal.returns-in-Ok-carry_out-clause-made
+returns-in-Ok-carry_out-clause-made g c =
+    plan_made (texts c.args.words.now) c.outcome_is_one.ensures (g.K.Sink.taken c.args.sink.now) (g.K.Sink.taken c.carry_out.new.sink) c.in-Ok.plan
+    c.in-Ok-carry_out.status c.in-Ok.ensures.made c.in-Ok-carry_out.ensures.written
+
+pub returns-in-Err-carry_out-clause-made : goal.returns-in-Err-carry_out-clause-made
+returns-in-Err-carry_out-clause-made g c =
+    let before = g.K.Sink.taken c.args.sink.now in
+    let after = g.K.Sink.taken c.carry_out.new.sink in
+    subst (λ n. EndsMade (texts c.args.words.now) n before after) (sym c.status.ensures)
+    (cut_made (texts c.args.words.now) c.outcome_is_one.ensures before after c.in-Ok.plan
+    c.in-Err-carry_out.stop c.in-Ok.ensures.made c.in-Err-carry_out.ensures.stop c.in-Err-carry_out.ensures.written)
+
+pub returns-in-Err-carry_out-clause-described : goal.returns-in-Err-carry_out-clause-described
+returns-in-Err-carry_out-clause-described g c =
+    let told = g.B.Library.files c.args.library.now in
+    let left = g.S.Source.left c.args.script.now in
+    let before = g.K.Sink.taken c.args.sink.now in
+    let after = g.K.Sink.taken c.carry_out.new.sink in
+    subst (λ n. IfBothTold told left (λ files text. (n ≡ 0) ⊎ (n ≡ 1) → TakesPromised (texts c.args.words.now) files text before after)) (sym c.status.ensures)
+    (stop_promises told left c.in-Err-carry_out.stop (λ files text. TakesPromised (texts c.args.words.now) files text before after))
+
+pub returns-in-Err-clause-made : goal.returns-in-Err-clause-made
+returns-in-Err-clause-made g c =
+    let taken = g.K.Sink.taken c.args.sink.now in
+    subst (λ n. EndsMade (texts c.args.words.now) n taken taken) (sym c.status-in-Err.ensures)
+    (stopped_made (texts c.args.words.now) c.outcome_is_one.ensures taken c.in-Err.stop c.in-Err.ensures.made)
+
+pub returns-in-Err-clause-early : goal.returns-in-Err-clause-early
+returns-in-Err-clause-early g c =
+    let told = g.B.Library.files c.args.library.now in
+    let taken = g.K.Sink.taken c.args.sink.now in
+    let Failed = Rose (g.B.Library.faults c.args.library.now) (g.B.Library.faults c.planned.new.library) in
+    subst (λ n. IfSome told (λ files. EndsEarly (texts c.args.words.now) files n taken taken Failed)) (sym c.status-in-Err.ensures)
+    (stopped_early (texts c.args.words.now) Failed told c.in-Err.stop taken c.in-Err.ensures.early)

@@ -11,6 +11,7 @@ returns-then-is_some-is_empty c = record {
         (rw c.as_slice.ensures.value at c.is_empty.ensures) c.if-is_some-is_empty.true),
   );
   depth = tt;
+  make = tt;
 }
 
 pub returns : goal.returns
@@ -21,4 +22,5 @@ returns c = record {
       (agree c.args.make c.args.files.items c.is_some.result c.is_empty.result c.is_some.ensures
       (rw c.as_slice.ensures.value at c.is_empty.ensures) c.if-is_some-is_empty.false));
   depth = rw c.unwrap_or-2.ensures (three_or_given c.args.depth c.requires.depth);
+  make = c.requires.make;
 }

@@ -39,4 +39,4 @@ returns c =
     (ap (read_once (number 2000)) (sym (c.get_str-4.ensures ∙ first_value-rows f (name_of Make))) ∙ c.in_ok-make.ensures.read)
     c.in_ok-files.ensures.ok in
     let two = on_match e c.complete.result c.complete.ensures.settings in
-    record { ok = two.0; refused = two.1; depth = c.complete.ensures.depth }
+    record { ok = two.0; refused = two.1; depth = c.complete.ensures.depth; make = c.complete.ensures.make }

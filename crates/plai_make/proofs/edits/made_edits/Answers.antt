@@ -1,8 +1,9 @@
-use Rattle.std.proofs.Common.{◌≡◌, ◌+◌, ◌*◌, ◌++◌, [], ap, ◌∙◌, arith}
+use Rattle.std.proofs.Common.{◌≡◌, ◌+◌, ◌*◌, ◌++◌, ◌∷◌, [], Ok, ap, ◌∙◌, arith}
 use Rattle.plai_make.specs.Draws.{state_at, chosen, draw}
-use Rattle.plai_make.specs.Texts.{pair_text, drawn_pair}
-use Rattle.plai_make.proofs.Steps.{one_further, more_text}
-use Rattle.plai_make.proofs.edits.made_script.Goals as goal
+use Rattle.plai_make.specs.Programs.{removal, addition, drawn_pair}
+use Rattle.plai_make.proofs.Steps.{one_further, more_items}
+use Rattle.plai_make.proofs.Readable.{pair_readable}
+use Rattle.plai_make.proofs.edits.made_edits.Goals as goal
 
 pub loop-preserved : goal.loop-preserved
 loop-preserved c =
@@ -14,6 +15,7 @@ loop-preserved c =
     record {
       few = c.following-state.ensures.few;
       value = c.following-state.ensures.value ∙ one_further n (2 * n + (2 * i + 1)) (2 * n + 2 * (i + 1)) c.following-drawn.result drawn (omega arith);
-      text = more_text (drawn_pair n) [] c.loop.text.items c.write_pair.new.out.items i c.loop.invariant.text
-          (c.in_ok-write_pair.ensures ∙ ap (λ k. c.loop.text.items ++ pair_text k) number);
+      edits = more_items (drawn_pair n) [] c.loop.edits.items c.push_pair.new.edits.items i c.loop.invariant.edits
+          (c.in_ok-push_pair.ensures ∙ ap (λ k. c.loop.edits.items ++ Ok (removal k) ∷ Ok (addition k) ∷ []) number);
+      readable = rw c.in_ok-push_pair.ensures (pair_readable c.loop.edits.items c.chosen.result c.loop.invariant.readable);
     }
