@@ -6,4 +6,6 @@ mod clauses;
 #[cfg(test)]
 mod keys;
 #[cfg(test)]
+mod programs;
+#[cfg(test)]
 mod reading;

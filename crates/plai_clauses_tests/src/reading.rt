@@ -1,5 +1,5 @@
 // Terms from texts, and what is made of them.
-ghost use Rattle.std.specs.Prelude.{◌≤◌, All, IfOk, length};
+ghost use Rattle.std.specs.Prelude.{◌≡◌, ◌≤◌, All, IfOk, length};
 ghost use Rattle.plai_lex.specs.Tokens.{IsWritten};
 ghost use Rattle.plai_terms.specs.Readable.{IsReadable};
 
@@ -14,12 +14,9 @@ pub(crate) fn name(alloc: Global, text: &str) -> Result<Name, AllocError> {
     Ok(Name::new(Vec::from_slice(alloc, text.as_bytes())?))
 }
 
-pub(crate) fn key(
-    alloc: Global,
-    home: &str,
-    text: &str,
-    arity: u32,
-) -> Result<PredKey, AllocError> {
+pub(crate) fn key(alloc: Global, home: &str, text: &str, arity: u32) -> Result<PredKey, AllocError>
+    ensures { IfOk result (λ pred. pred.arity ≡ arity) }
+{
     Ok(PredKey {
         module: name(alloc, home)?,
         name: name(alloc, text)?,
