@@ -9,6 +9,7 @@
 # larger size has more predicates. Prints the number of rows, the time, and how many times it grew from the size before.
 set -eu
 here=$(cd "$(dirname "$0")/.." && pwd)
+plai=${PLAI:-$here/plai}
 folder=$(mktemp -d)
 trap 'rm -rf "$folder"' EXIT
 [ $# -gt 0 ] || set -- 1 2 3
@@ -174,14 +175,14 @@ for name, shape in shapes.items():
             out.write("\n".join([":- module(m, []).", *shape(size)]) + "\n")
 PYTHON
 
-"$here/plai" "$here/examples/app.pl" < /dev/null > "$folder/out"
+"$plai" "$here/examples/app.pl" < /dev/null > "$folder/out"
 for name in chain records lists arithmetic hub_first hub_middle hub_last two_hubs grid body body_facts body_pairs body_triples; do
   last=0
   for size in "$@"; do
     file=$folder/${name}_$size.pl
     before=$(date +%s%N)
     status=0
-    timeout 120 "$here/plai" "$file" < /dev/null > "$folder/out" || status=$?
+    timeout 120 "$plai" "$file" < /dev/null > "$folder/out" || status=$?
     time=$((($(date +%s%N) - before) / 1000000))
     rows=$(grep -c '^row ' "$folder/out" || true)
     growth=

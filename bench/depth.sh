@@ -3,21 +3,10 @@
 # 50 and 200 atoms, each of which begins with two characters, and whose states are atoms; a chain of predicates that build a term
 # of the depth and more; and terms nested to the reader's limit in clause heads and bodies, 10 and 40 of them. Prints the status,
 # the rows, the bytes printed and the time, and how many times it grew from the size before. PLAI names another program than ./plai.
-set -eu
-here=$(cd "$(dirname "$0")/.." && pwd)
-plai=${PLAI:-$here/plai}
-folder=$(mktemp -d)
-trap 'rm -rf "$folder"' EXIT
+. "$(dirname "$0")/lib.sh"
 
 python3 - "$folder" <<'PYTHON'
-import sys
-
-folder = sys.argv[1]
-
-
-def write(name, *lines):
-    with open(f"{folder}/{name}.pl", "w") as out:
-        out.write("\n".join([":- module(m, []).", *lines]) + "\n")
+from modules import write
 
 
 LISTS = """
@@ -96,22 +85,11 @@ for count in (10, 40):
     nested(count)
 PYTHON
 
-"$plai" "$here/examples/app.pl" < /dev/null > "$folder/out"
 for shape in lists:10,20 tokenizer:50,200 towers:20,40 nested:10,40; do
-  name=${shape%%:*}
   for depth in 1 3 8; do
     last=0
     for size in $(echo "${shape##*:}" | tr , ' '); do
-      file=$folder/${name}_$size.pl
-      before=$(date +%s%N)
-      status=0
-      timeout 300 "$plai" --domain depth --depth "$depth" "$file" < /dev/null > "$folder/out" || status=$?
-      time=$((($(date +%s%N) - before) / 100000))
-      rows=$(grep -c '^row ' "$folder/out" || true)
-      growth=
-      [ "$last" -eq 0 ] || growth=", $((time / last)).$((time * 10 / last % 10)) times"
-      echo "$name $size at depth $depth: status $status, $rows rows, $(stat -c %s "$folder/out") bytes, $((time / 10)).$((time % 10)) ms$growth"
-      last=$time
+      measure "${shape%%:*} $size at depth $depth" "$folder/${shape%%:*}_$size.pl" --domain depth --depth "$depth"
     done
   done
 done

@@ -7,6 +7,7 @@
 # memory per byte of text.
 set -eu
 here=$(cd "$(dirname "$0")/.." && pwd)
+plai=${PLAI:-$here/plai}
 folder=$(mktemp -d)
 trap 'rm -rf "$folder"' EXIT
 [ $# -gt 0 ] || set -- facts clauses strings lists brackets operators predicate predicates entries checks imports files
@@ -79,7 +80,7 @@ PYTHON
 for shape in "$@"; do
   for size in $(ls "$folder/$shape" | sort -n); do
     bytes=$(cat "$folder/$shape/$size"/*.pl | wc -c)
-    read -r status ms peak <<< "$(python3 - "$here/plai" "$folder/$shape/$size"/*.pl <<'PYTHON'
+    read -r status ms peak <<< "$(python3 - "$plai" "$folder/$shape/$size"/*.pl <<'PYTHON'
 import subprocess, sys, time
 
 # the greatest size of the program's memory, read while it runs, since the one that the system counts has this script's in it

@@ -3,23 +3,12 @@
 # groups, and of 17, where the analysis stops. Then the time of a literal against the number of groups of the state: a predicate of
 # 4, 7, 10 and 13 arguments of which nothing is known has 15, 127, 1,023 and 8,191 groups; its body has 200 literals, each of an
 # atom, which meets no group, or each of one of the arguments, which meets half of them. Then programs as they are written:
-# predicates of 8 arguments with lists and accumulators, and clauses of 20 variables, at three sizes. Prints the status, the rows
-# and the time, and how many times it grew from the line before of the same shape. PLAI names another program than ./plai.
-set -eu
-here=$(cd "$(dirname "$0")/.." && pwd)
-plai=${PLAI:-$here/plai}
-folder=$(mktemp -d)
-trap 'rm -rf "$folder"' EXIT
+# predicates of 8 arguments with lists and accumulators, and clauses of 20 variables, at three sizes. Prints the status, the rows, the bytes
+# printed and the time, and how many times it grew from the line before of the same shape. PLAI names another program than ./plai.
+. "$(dirname "$0")/lib.sh"
 
 python3 - "$folder" <<'PYTHON'
-import sys
-
-folder = sys.argv[1]
-
-
-def write(name, *lines):
-    with open(f"{folder}/{name}.pl", "w") as out:
-        out.write("\n".join([":- module(m, []).", *lines]) + "\n")
+from modules import write
 
 
 def numbered(letter, count):
@@ -76,20 +65,9 @@ for count in (1, 4, 16):
     programs(count)
 PYTHON
 
-"$plai" "$here/examples/app.pl" < /dev/null > "$folder/out"
 for shape in star:16,17 atoms:15,127,1023,8191 arguments:15,127,1023,8191 programs:1,4,16; do
-  name=${shape%%:*}
   last=0
   for size in $(echo "${shape##*:}" | tr , ' '); do
-    file=$folder/${name}_$size.pl
-    before=$(date +%s%N)
-    status=0
-    timeout 300 "$plai" --domain share "$file" < /dev/null > "$folder/out" || status=$?
-    time=$((($(date +%s%N) - before) / 10000))
-    rows=$(grep -c '^row ' "$folder/out" || true)
-    growth=
-    [ "$last" -eq 0 ] || growth=", $((time / last)).$((time * 10 / last % 10)) times"
-    echo "$name $size: status $status, $rows rows, $((time / 100)).$((time / 10 % 10)) ms$growth"
-    last=$time
+    measure "${shape%%:*} $size" "$folder/${shape%%:*}_$size.pl" --domain share
   done
 done
