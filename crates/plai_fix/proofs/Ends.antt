@@ -1,5 +1,5 @@
 -- Where legal work begins, ends and stops.
-use Rattle.std.proofs.Common.{◌≡◌, ℕ, zero, suc, ◌≤◌, Bool, true, false, List, [], ◌∷◌, Option, Some, None, IsSome, sym, refl, ap, ◌∙◌, subst, inl, inr, arith}
+use Rattle.std.proofs.Common.{◌≡◌, ℕ, zero, suc, ◌≤◌, Bool, true, false, List, [], Some, None, IsSome, sym, ◌∙◌, subst, inl, inr, arith}
 use Rattle.plai_theory.specs.Words.{IsIn, item}
 use Rattle.plai_theory.specs.Domain.{Domain, Program, IsLawful}
 use Rattle.plai_theory.specs.Evaluation.{NameOf}
@@ -7,8 +7,8 @@ use Rattle.plai_theory.specs.LegalWork.{WorkRow, Work, LogEntry, find, IsDemande
 use Rattle.plai_theory.specs.Limits.{Limits}
 use Rattle.plai_theory.specs.Claims.{IsStoppedLog}
 use Rattle.plai_theory.proofs.Rows.{find_name}
-use Rattle.plai_fix.specs.WorkStates.{Keeping, clause_at, AtBoth, KeepsRow, Keeps, IsMet, IsFull}
-use Rattle.plai_fix.specs.Logs.{IsLogged, IsWorking}
+use Rattle.plai_fix.specs.WorkStates.{Keeping, AtBoth, KeepsRow}
+use Rattle.plai_fix.specs.Logs.{IsWorking}
 use Rattle.plai_fix.proofs.Places.{place_of, found_at, have}
 use Rattle.plai_fix.proofs.Steps.{row_at}
 

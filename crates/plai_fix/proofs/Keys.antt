@@ -1,5 +1,5 @@
 -- Rows of a table looked up by their names, where equal keys are those of equal names.
-use Rattle.std.proofs.Common.{◌≡◌, ℕ, zero, suc, ◌+◌, ◌<◌, ◌≤◌, Bool, true, false, cond, not, ◌&&◌, List, [], ◌∷◌, map, length, slice_get, get_or, position, nat_lt, Option, Some, None, ◌↔◌, sym, refl, ap, ◌∙◌, subst, arith}
+use Rattle.std.proofs.Common.{◌≡◌, ℕ, zero, suc, ◌+◌, ◌<◌, ◌≤◌, Bool, true, false, ◌&&◌, List, [], ◌∷◌, length, slice_get, get_or, position, nat_lt, Some, None, ◌↔◌, sym, refl, ap, ◌∙◌, subst, arith}
 use Rattle.std.specs.Option.{option_map}
 use Rattle.std.specs.List.{position_or_len}
 use Rattle.std.proofs.lemmas.Bool.Decides.{nat_tests}
@@ -18,7 +18,7 @@ use Rattle.plai_table.specs.Rows.{TableRow, names_of}
 use Rattle.plai_eval.specs.Meaning.{row_name, as_domain}
 use Rattle.plai_eval.proofs.Names.{same_name-true, same_name-refl}
 use Rattle.plai_fix.specs.WorkStates.{IsNamed, kept_source}
-use Rattle.plai_fix.specs.Tables.{key_name, kept_row, kept_rows}
+use Rattle.plai_fix.specs.Tables.{key_name, kept_rows}
 
 both : (p q : Bool) → (p && q) ≡ true → (p ≡ true) × (q ≡ true)
 both true q e = (refl, e)

@@ -1,6 +1,8 @@
 pub mod Places
 pub mod Steps
+pub mod Growths
 pub mod Working
+pub mod Waiting
 pub mod Ends
 pub mod Values
 pub mod Marked
@@ -9,3 +11,11 @@ pub mod Evaluated
 pub mod Keys
 pub mod LookedUp
 pub mod Makings
+pub mod Lists
+pub mod Pairs
+pub mod Linked
+pub mod Placements
+pub mod Queued
+pub mod Measured
+pub mod Lowering
+pub mod Extended

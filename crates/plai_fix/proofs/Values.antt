@@ -1,5 +1,5 @@
 -- What is kept of work that began with no rows: names and answers are values, and evaluations are those of the work.
-use Rattle.std.proofs.Common.{◌≡◌, ℕ, zero, suc, List, Option, Some, None, sym, refl, ap, ◌∙◌, subst}
+use Rattle.std.proofs.Common.{◌≡◌, ℕ, List, Option, Some, None, sym, refl, ◌∙◌, subst}
 use Rattle.plai_theory.specs.Words.{HasSome, item, UpTo}
 use Rattle.plai_theory.specs.Domain.{Domain, Program, IsLawful}
 use Rattle.plai_theory.specs.Evaluation.{NameOf, answer_of, calls_of}
@@ -18,7 +18,7 @@ module _ (d : Domain) (g : Program d) (laws : IsLawful d g) (limits : Limits d) 
   abbrev rows : List (WorkRow d)
   rows = (after_all d g (no_work d) log).rows
 
-  inv : Inv d g rows (after_all d g (no_work d) log).last
+  pub inv : Inv d g rows (after_all d g (no_work d) log).last
   inv = log_keeps d g laws limit (no_work d) log (empty d g laws) logged.legal
 
   pub kept_answers : (p : d.Pred) (v : d.Value) → kept_source d k.rows p v ≡ present_source d rows p v

@@ -1,19 +1,20 @@
 -- Steps of legal work at a table and its arcs, each noted at the end of a log.
-use Rattle.std.proofs.Common.{◌≡◌, ◌≢◌, ℕ, zero, suc, ◌+◌, ◌<◌, ◌≤◌, Bool, true, false, cond, ◌&&◌, ◌||◌, ◌↔◌, nat_eq, eqb-true, List, [], ◌∷◌, ◌++◌, map, length, Option, Some, None, IsSome, sym, refl, ap, ap₂, ◌∙◌, subst, inl, inr, arith}
+use Rattle.std.proofs.Common.{◌≡◌, ◌≢◌, ℕ, suc, ◌+◌, ◌<◌, ◌≤◌, Bool, true, false, cond, ◌↔◌, nat_eq, eqb-true, List, [], ◌∷◌, ◌++◌, map, Option, Some, None, IsSome, sym, refl, ap, ap₂, ◌∙◌, subst, arith}
 use Rattle.plai_theory.specs.Words.{IsIn, given, item}
 use Rattle.plai_theory.specs.Domain.{Domain, Program, IsLawful}
-use Rattle.plai_theory.specs.Evaluation.{NameOf, name_of, answer_of, calls_of, join_of}
-use Rattle.plai_theory.specs.LegalWork.{WorkRow, Work, LogEntry, Made, Evaluated, Grew, find, present_source, put, mentions, new_row, after_evaluating, after_growing, calls_now, answer_now, next_answer, after, NoneDue, IsDemanded, IsRecorded, live_count, IsLegal, IsLegalLog, after_all}
+use Rattle.plai_theory.specs.Evaluation.{NameOf}
+use Rattle.plai_theory.specs.LegalWork.{WorkRow, Work, LogEntry, Made, Evaluated, Grew, find, present_source, mentions, new_row, after_evaluating, after_growing, calls_now, next_answer, after, IsDemanded, live_count, IsLegal, after_all}
 use Rattle.plai_theory.specs.Limits.{Limits, IsOverAt, Fits, AllFit}
 use Rattle.plai_theory.proofs.Options.{by_test}
 use Rattle.plai_theory.proofs.Rows.{find_map, find_push}
 use Rattle.plai_theory.proofs.Walk.{after_push, legal_push}
-use Rattle.plai_fix.specs.WorkStates.{clause_at, KeptRow, Keeping, Keeps, IsMet, IsFull, IsNamed}
+use Rattle.plai_fix.specs.WorkStates.{clause_at, Keeping, Keeps, IsMet, IsFull, IsNamed}
 use Rattle.plai_fix.specs.Changes.{Clears, SetsCalls, Answers, Makes}
 use Rattle.plai_fix.specs.Logs.{IsLogged, IsWorking, IsEvaluated}
 use Rattle.plai_fix.proofs.Places.{item_map, push_cases, found_at, one_place}
-use Rattle.std.proofs.lemmas.Bool.{eq-eqb, eqb-false}
-use Rattle.plai_fix.proofs.Steps.{row_at, or_cases, cleared, opened, closed, grown, made}
+use Rattle.std.proofs.lemmas.Bool.{eqb-false}
+use Rattle.plai_fix.proofs.Steps.{row_at, cleared, opened, closed}
+use Rattle.plai_fix.proofs.Growths.{grown, made}
 
 -- live rows, of which a change of rows makes as many
 live_map : (d : Domain) (f : WorkRow d → WorkRow d) → ((r : WorkRow d) → (f r).live ≡ r.live) → (rows : List (WorkRow d)) → live_count d (map f rows) ≡ live_count d rows
@@ -36,7 +37,7 @@ at_map {A} {P} f xs n x e h = at_item (item xs n) refl (sym (item_map f xs n) �
     at_item None k u = cc
     at_item (Some y) k u = h y k cc
 
-some_pair : {n i a j : ℕ} → ◌≡◌ {A = Option (ℕ × ℕ)} (Some (n, i)) (Some (a, j)) → (n ≡ a) × (i ≡ j)
+pub some_pair : {n i a j : ℕ} → ◌≡◌ {A = Option (ℕ × ℕ)} (Some (n, i)) (Some (a, j)) → (n ≡ a) × (i ≡ j)
 some_pair {n = n} {i = i} e = (ap (fst n) e, ap (snd i) e)
   where
     fst : ℕ → Option (ℕ × ℕ) → ℕ
@@ -289,63 +290,3 @@ module _ (d : Domain) (g : Program d) (laws : IsLawful d g) (limits : Limits d) 
   pub opens : (k : Keeping d) (open_pair : Option (ℕ × ℕ)) → IsLogged d g limits limit start log k None → IsLogged d g limits limit start log k open_pair
   opens k open_pair logged =
       record { legal = logged.legal; fits = logged.fits; keeps = opened d g laws k rows logged.keeps open_pair; few = logged.few; live = logged.live }
-
-module _ (d : Domain) (g : Program d) (laws : IsLawful d g) where
-  -- A pair that waited has its rows, all live.
-  pub waits_no_more : (rows : List (WorkRow d)) (n i : ℕ) (unmet : ℕ → ℕ → Bool) → IsMet d g (Some (n, i)) unmet rows → (r : WorkRow d) → item rows n ≡ Some r
-      → ((y : NameOf d) → IsIn y (r.calls i) → (q : WorkRow d) × (find d rows y ≡ Some q) × (q.live ≡ true)) → IsMet d g None unmet rows
-  waits_no_more rows n i unmet met r at all =
-      record {
-        met = λ a q e j c s clean shut free y inside.
-            by_test (nat_eq a n && nat_eq j i)
-            (λ t.
-            let (u, v) = both (nat_eq a n) (nat_eq j i) t in
-            let there : Some q ≡ Some r = sym e ∙ ap (item rows) (eqb-true a n u) ∙ at in
-            let same : q ≡ r = cc in
-            let (z, f, l) = all y (subst (IsIn y) (ap₂ (λ (w : WorkRow d) (m : ℕ). w.calls m) same (eqb-true j i v)) inside) in
-            (z, f, λ o. l))
-            (λ t. met.met a q e j c s clean (λ p. let (x, z) = some_pair p in let u : (nat_eq a n && nat_eq j i) ≡ true = rw (eq-eqb a n (sym x), eq-eqb j i (sym z)) refl in let l : true ≡ false = sym u ∙ t in cc) free y inside);
-      }
-    where
-      both : (p q : Bool) → (p && q) ≡ true → (p ≡ true) × (q ≡ true)
-      both true q e = (refl, e)
-      both false q e = cc
-
-  -- Where the limit is met and a name that it called is no live row, the pair that waited is marked as unmet.
-  pub waits_for_ever : (limit : ℕ) (rows : List (WorkRow d)) (n i : ℕ) (unmet marked : ℕ → ℕ → Bool) → IsMet d g (Some (n, i)) unmet rows → IsFull d g limit unmet rows → ((a m : ℕ) → marked a m ≡ ((nat_eq a n && nat_eq m (suc i)) || unmet a m))
-      → (r : WorkRow d) → item rows n ≡ Some r → IsSome (clause_at d g r.name.pred (suc i)) → limit ≤ live_count d rows → (y : NameOf d) → IsIn y (r.calls i) → ((q : WorkRow d) → find d rows y ≡ Some q → q.live ≡ false)
-      → IsMet d g None marked rows × IsFull d g limit marked rows
-  waits_for_ever limit rows n i unmet marked met full marks r at real no_room y inside dead = (
-    record {
-      met = λ a q e j c s clean shut free.
-          let (x, z) = neither (nat_eq a n && nat_eq (suc j) (suc i)) (unmet a (suc j)) (sym (marks a (suc j)) ∙ free) in
-          met.met a q e j c s clean (λ p. let (v, w) = some_pair p in
-          let u : (nat_eq a n && nat_eq (suc j) (suc i)) ≡ true = rw (eq-eqb a n (sym v), eq-eqb (suc j) (suc i) (ap suc (sym w))) refl in let l : true ≡ false = sym u ∙ x in cc) z;
-    },
-    record {
-      full = λ a m e. no_room;
-      pairs = λ a m e.
-          or_cases (nat_eq a n && nat_eq m (suc i)) (unmet a m) (sym (marks a m) ∙ e)
-          (λ t. let (u, v) = both (nat_eq a n) (nat_eq m (suc i)) t in
-          (r, ap (item rows) (eqb-true a n u) ∙ at, subst (λ z. IsSome (clause_at d g r.name.pred z)) (sym (eqb-true m (suc i) v)) real))
-          (full.pairs a m);
-      missing = λ a q e j clean mark.
-          or_cases (nat_eq a n && nat_eq (suc j) (suc i)) (unmet a (suc j)) (sym (marks a (suc j)) ∙ mark)
-          (λ t.
-          let (u, v) = both (nat_eq a n) (nat_eq (suc j) (suc i)) t in
-          let there : Some q ≡ Some r = sym e ∙ ap (item rows) (eqb-true a n u) ∙ at in
-          let same : q ≡ r = cc in
-          let w : suc j ≡ suc i = eqb-true (suc j) (suc i) v in
-          let x : j ≡ i = omega arith in
-          (y, subst (IsIn y) (sym (ap₂ (λ (w : WorkRow d) (m : ℕ). w.calls m) same x)) inside, dead))
-          (full.missing a q e j clean);
-    },
-  )
-    where
-      both : (p q : Bool) → (p && q) ≡ true → (p ≡ true) × (q ≡ true)
-      both true q e = (refl, e)
-      both false q e = cc
-
-      neither : (p q : Bool) → (p || q) ≡ false → (p ≡ false) × (q ≡ false)
-      neither true q e = cc
-      neither false q e = (refl, e)

@@ -5,3 +5,6 @@ pub mod Tables
 pub mod Evaluating
 pub mod LookUps
 pub mod Marks
+pub mod Pairs
+pub mod Measures
+pub mod Queues

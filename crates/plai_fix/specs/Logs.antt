@@ -1,9 +1,9 @@
 -- Legal logs of work whose state a table and its arcs keep (Hermenegildo, Puebla, Marriott and Stuckey 2000).
 use Rattle.std.specs.Prelude.{◌≡◌, ℕ, ◌≤◌, Bool, true, List, Option, Some}
-use Rattle.plai_theory.specs.Words.{IsIn, item}
+use Rattle.plai_theory.specs.Words.{item}
 use Rattle.plai_theory.specs.Domain.{Domain, Program}
 use Rattle.plai_theory.specs.Evaluation.{NameOf}
-use Rattle.plai_theory.specs.LegalWork.{WorkRow, Work, LogEntry, find, live_count, NoneDue, IsLegalLog, after_all}
+use Rattle.plai_theory.specs.LegalWork.{WorkRow, Work, LogEntry, live_count, NoneDue, IsLegalLog, after_all}
 use Rattle.plai_theory.specs.Limits.{Limits, AllFit}
 use Rattle.plai_fix.specs.WorkStates.{Keeping, Keeps, IsMet, IsFull}
 

@@ -1,5 +1,5 @@
 -- What the rows of a table over a domain's own values keep of rows under work.
-use Rattle.std.specs.Prelude.{List, map, Option}
+use Rattle.std.specs.Prelude.{List, map}
 use Rattle.std.specs.Option.{option_map}
 use Rattle.plai_theory.specs.Domain.{Name}
 use Rattle.plai_terms.specs.declared.abs.Abs.{Abs}

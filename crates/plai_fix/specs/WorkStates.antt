@@ -1,6 +1,6 @@
 -- What a table and its arcs keep of a state of work (Hermenegildo, Puebla, Marriott and Stuckey 2000). Rows are numbered
 -- from 0, as in the table, and clauses from 1.
-use Rattle.std.specs.Prelude.{◌≡◌, ◌↔◌, ◌≤◌, ℕ, zero, suc, Bool, true, false, cond, List, [], ◌∷◌, Option, Some, None, IsSome}
+use Rattle.std.specs.Prelude.{◌≡◌, ◌↔◌, ◌≤◌, ℕ, zero, suc, Bool, true, false, cond, count_by, List, [], ◌∷◌, Option, Some, None, IsSome}
 use Rattle.plai_theory.specs.Words.{IsIn, HasSome, item}
 use Rattle.plai_theory.specs.Domain.{Domain, Program}
 use Rattle.plai_theory.specs.Evaluation.{NameOf, Source, name_of}
@@ -72,3 +72,12 @@ pub record IsFull (d : Domain) (g : Program d) (limit : ℕ) (unmet : ℕ → �
   pub pairs : (n m : ℕ) → unmet n m ≡ true → (r : WorkRow d) × (item rows n ≡ Some r) × IsSome (clause_at d g r.name.pred m)
   pub missing : (n : ℕ) (r : WorkRow d) → item rows n ≡ Some r → (i : ℕ) → r.dirty i ≡ false → unmet n (suc i) ≡ true
       → (y : NameOf d) × IsIn y (r.calls i) × ((q : WorkRow d) → find d rows y ≡ Some q → q.live ≡ false)
+
+-- how many kept rows are live
+abbrev pub kept_live : (d : Domain) → List (KeptRow d) → ℕ
+kept_live d kept = count_by (λ (k : KeptRow d). k.live) kept
+
+-- As many rows are live, or more, and each name keeps its row.
+pub record Extends (d : Domain) (kept new : List (KeptRow d)) : Type 0 where
+  pub live : kept_live d kept ≤ kept_live d new
+  pub names : (j : ℕ) (y : NameOf d) → IsNamed d kept j y → IsNamed d new j y

@@ -1,6 +1,7 @@
 //! Legal work on a table and its arcs (Hermenegildo, Puebla, Marriott and Stuckey 2000): what they keep of a state of work,
 //! what each step changes of them, and the parts of a step: evaluations under the rows of a table, growths, look-ups of
-//! what is called, and marks. The functions of laws have empty bodies: each of their clauses is a theorem.
+//! what is called, marks, and the queue of rows that have dirty pairs. The functions of laws have empty bodies: each of their
+//! clauses is a theorem.
 #![tactic(auto)]
 
 mod calling;
@@ -10,7 +11,9 @@ mod laws;
 mod looking;
 mod marking;
 mod present;
+mod queue;
 mod solve_fail;
+mod work_laws;
 
 pub use calling::{callers_of, set_pair_calls};
 pub use evaluation::{evaluate_clause, evaluate_pair};
@@ -18,4 +21,6 @@ pub use joining::growth;
 pub use laws::{end_laws, step_laws, value_laws, wait_laws};
 pub use looking::{look_up, look_up_all};
 pub use marking::{mark_clauses, mark_pairs};
+pub use queue::{next_pair, push_row, push_rows};
 pub use solve_fail::SolveFail;
+pub use work_laws::{fall_laws, pair_laws, placing_laws};

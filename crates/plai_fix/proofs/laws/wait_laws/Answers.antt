@@ -1,5 +1,6 @@
 -- Each clause is a theorem of proofs/.
-use Rattle.plai_fix.proofs.Working.{sets, opens, waits_no_more, waits_for_ever}
+use Rattle.plai_fix.proofs.Working.{sets, opens}
+use Rattle.plai_fix.proofs.Waiting.{waits_no_more, waits_for_ever}
 use Rattle.plai_fix.proofs.laws.wait_laws.Goals as goal
 
 pub returns : goal.returns

@@ -1,0 +1,66 @@
+-- Rows that wait, as they are put in and taken out.
+use Rattle.std.proofs.Common.{◌≡◌, ◌⊎◌, ℕ, ◌+◌, ◌<◌, Bool, true, false, ◌&&◌, ◌||◌, nat_eq, eqb-true, List, [], ◌∷◌, length, take, get_or, slice_index_or, Option, Some, None, IfSome, IfNone, sym, refl, ap, ◌∙◌, subst, inl, inr, arith}
+use Rattle.std.specs.List.{list_any, Contains}
+use Rattle.std.specs.List.Sorted.{IsPermutation}
+use Rattle.std.proofs.lemmas.List.Elements.{Contains-append_left, Contains-append_right, Contains-append_cases, Contains-push, Contains-push_cases}
+use Rattle.std.proofs.lemmas.List.Sorted.{Contains-permutation}
+use Rattle.std.proofs.lemmas.List.Folds.{list_any_more}
+use Rattle.plai_arcs.specs.Links.{is_pair}
+use Rattle.plai_fix.specs.Queues.{IsQueued}
+
+pub pushed_row : (old new : List ℕ) (x : ℕ) → IsPermutation (x ∷ old) new → Contains new x
+pushed_row old new x perm = Contains-permutation (x ∷ old) new x perm (Contains-append_left (x ∷ []) old x (Contains-push [] x))
+
+pub pushed_others : (old new : List ℕ) (x : ℕ) → IsPermutation (x ∷ old) new → (n : ℕ) → Contains old n → Contains new n
+pushed_others old new x perm n h = Contains-permutation (x ∷ old) new n perm (Contains-append_right (x ∷ []) old n h)
+
+no_contains : (n : ℕ) → Contains [] n → ⊥
+no_contains n h = let l = h.1 in absurd (omega arith)
+
+-- a row that has no dirty pair is taken out
+pub popped : (dirty : ℕ → ℕ → Bool) (old new : List ℕ) (x : ℕ) → IsQueued dirty old → IsPermutation old (x ∷ new) → ((m : ℕ) → dirty x m ≡ false) → IsQueued dirty new
+popped dirty old new x queued perm clean n m e = at (Contains-append_cases (x ∷ []) new n (Contains-permutation old (x ∷ new) n perm (queued n m e)))
+  where
+    is_row : Contains (x ∷ []) n ⊎ Contains new n → Contains [] n ⊎ (x ≡ n) → Contains new n
+    is_row h (inl k) = absurd (no_contains n k)
+    is_row h (inr s) = let l : true ≡ false = sym e ∙ ap (λ z. dirty z m) (sym s) ∙ clean m in cc
+
+    at : Contains (x ∷ []) n ⊎ Contains new n → Contains new n
+    at (inl h) = is_row (inl h) (Contains-push_cases [] x n h)
+    at (inr h) = h
+
+pub none_queued : (dirty : ℕ → ℕ → Bool) (queue : List ℕ) → IsQueued dirty queue → length queue ≡ 0 → (n m : ℕ) → dirty n m ≡ false
+none_queued dirty queue queued e n m = at (dirty n m) refl
+  where
+    at : (b : Bool) → dirty n m ≡ b → b ≡ false
+    at true t = let h = (queued n m t).1 in absurd (omega arith)
+    at false t = refl
+
+first : (p q : Bool) → (p && q) ≡ true → p ≡ true
+first true q e = refl
+first false q e = cc
+
+or_cases : {P : Type 0} (p q : Bool) → (p || q) ≡ true → (p ≡ true → P) → (q ≡ true → P) → P
+or_cases true q e h k = h refl
+or_cases false q e h k = k e
+
+pub rows_more : (pairs : List (ℕ × ℕ)) (i : ℕ) (d : ℕ × ℕ) (old new : List ℕ) → i < length pairs → ((n m : ℕ) → list_any (is_pair n m) (take i pairs) ≡ true → Contains old n)
+    → Contains new (get_or pairs i d).0 → ((n : ℕ) → Contains old n → Contains new n) → (n m : ℕ) → list_any (is_pair n m) (take (i + 1) pairs) ≡ true → Contains new n
+rows_more pairs i d old new h before own others n m e =
+    or_cases (list_any (is_pair n m) (take i pairs)) (is_pair n m (get_or pairs i d)) (sym (list_any_more (is_pair n m) pairs i d h) ∙ e)
+    (λ t. others n (before n m t))
+    (λ t. subst (Contains new) (sym (eqb-true n (get_or pairs i d).0 (first (nat_eq n (get_or pairs i d).0) (nat_eq m (get_or pairs i d).1) t))) own)
+
+-- the first row is taken out, which has no dirty pair
+pub popped_first : (dirty : ℕ → ℕ → Bool) (old new : List ℕ) (result : Option ℕ) (row : ℕ) → IsQueued dirty old → row ≡ slice_index_or old 0 row → IfSome result (λ x. x ≡ slice_index_or old 0 x)
+    → IfSome result (λ x. IsPermutation old (x ∷ new)) → IfNone result (new ≡ old) → ((m : ℕ) → dirty row m ≡ false) → IsQueued dirty new
+popped_first dirty old new None row queued e f perm same clean = subst (IsQueued dirty) (sym same) queued
+popped_first dirty [] new (Some x) row queued e f perm same clean = λ n m t. absurd (no_contains n (queued n m t))
+popped_first dirty (z ∷ zs) new (Some x) row queued e f perm same clean =
+    let g : row ≡ z = e in
+    let h : x ≡ z = f in
+    popped dirty (z ∷ zs) new x queued perm (λ m. ap (λ w. dirty w m) (h ∙ sym g) ∙ clean m)
+
+pub when_none : {A : Type 0} (P Q : Type 0) (o : Option A) → IfNone o P → (P → Q) → IfNone o Q
+when_none P Q None h k = k h
+when_none P Q (Some x) h k = tt
