@@ -1,8 +1,10 @@
-//! Tests of `ShareFree`: beside a second program over lists of groups in no order.
+//! Tests of `ShareFree`: beside a second program over lists of groups in no order, and near the limit of groups.
 #![tactic(auto)]
 
 #[cfg(test)]
 mod groups;
+#[cfg(test)]
+mod limits;
 #[cfg(test)]
 mod second;
 #[cfg(test)]
