@@ -1,7 +1,6 @@
 -- What edits make of programs, by their kinds, and edits in order.
-use Rattle.std.proofs.Common.{◌≡◌, ◌∙◌, ℕ, Bool, ◌||◌, Result, Ok, Err, List, [], ◌∷◌, ◌++◌, map, flat_map, refl, sym, ap, subst, rules}
+use Rattle.std.proofs.Common.{◌≡◌, ◌∙◌, ℕ, Result, Ok, Err, List, [], ◌∷◌, ◌++◌, map, flat_map, refl, sym, ap, subst, rules}
 use Rattle.std.specs.Prelude.{All}
-use Rattle.std.specs.List.{list_any}
 use Rattle.std.proofs.lemmas.List.Elements.{All-head, All-tail, All-cons, All-nil}
 use Rattle.plai_terms.specs.Readable.{IsReadable}
 use Rattle.plai_terms.specs.declared.read_term.ReadTerm.{ReadTerm}
@@ -11,7 +10,6 @@ use Rattle.plai_script.specs.declared.edit.Edit.{Edit, Add, Del, Drop, Entry, Un
 use Rattle.plai_script.specs.declared.edit.Edit as edit
 use Rattle.plai_script.specs.declared.fail.EditFail.{EditFail}
 use Rattle.plai_script.specs.Edits.{and_then, clause_in, entry_in, check_in, with_room, in_order, done, edited, edited_by}
-use Rattle.plai_script.specs.Checks.{has_checks}
 use Rattle.plai_script.specs.Readable.{terms_of, IsReadableEdit}
 use Rattle.plai_script.specs.Answering.{Leaves}
 
@@ -77,14 +75,3 @@ all_readable (e ∷ es) h =
 
 pub readable-All : (e : Edit) (es items : List Edit) → e ≡ edit.All es → items ≡ es → IsReadableEdit e → All IsReadableEdit items
 readable-All e es items is same h = subst (All IsReadableEdit) (sym same) (all_readable es (subst (All IsReadable) (ap terms_of is ∙ terms-All es) h))
-
--- whether an edit speaks of assertions
-any_of : (es : List Edit) → list_any (λ b. b) (map has_checks es) ≡ list_any has_checks es
-any_of [] = refl
-any_of (e ∷ es) = ap (λ b. has_checks e || b) (any_of es)
-
-checks-All : (es : List Edit) → has_checks (edit.All es) ≡ list_any (λ b. b) (map has_checks es)
-checks-All es = search (rules, edit_lemmas)
-
-pub has_checks-All : (e : Edit) (es items : List Edit) (b : Bool) → e ≡ edit.All es → items ≡ es → b ≡ list_any has_checks items → b ≡ has_checks e
-has_checks-All e es items b is same h = h ∙ ap (list_any has_checks) same ∙ sym (ap has_checks is ∙ checks-All es ∙ any_of es)

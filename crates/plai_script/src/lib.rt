@@ -2,7 +2,6 @@
 #![tactic(auto)]
 
 mod change;
-mod checks;
 mod edit;
 mod fail;
 mod own_term;
@@ -10,7 +9,6 @@ mod script;
 mod shape;
 
 pub use change::apply;
-pub use checks::is_without_checks;
 pub use edit::Edit;
 pub use fail::{EditFail, ScriptFail};
 pub use plai_clauses::EditCause;
