@@ -3,5 +3,4 @@ pub mod Shapes
 pub mod Edits
 pub mod Scripts
 pub mod Readable
-pub mod Checks
 pub mod Answering
