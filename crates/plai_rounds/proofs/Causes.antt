@@ -5,8 +5,9 @@ use Rattle.plai_theory.specs.Domain.{Domain, Program, Name}
 use Rattle.plai_theory.specs.Domain as theory
 use Rattle.plai_theory.specs.LeastTable.{Row}
 use Rattle.plai_theory.specs.Tables.{source_of}
-use Rattle.plai_theory.specs.Rounds.{IsAsked, IsMade, Add}
-use Rattle.plai_theory.proofs.Rounds.{made_low, from_below}
+use Rattle.plai_theory.specs.Evaluation.{answer_of}
+use Rattle.plai_theory.specs.Rounds.{IsAsked, IsMade, Begin, Add, Raise, after_raising}
+use Rattle.plai_theory.proofs.Rounds.{made_low, from_below, map_in}
 use Rattle.plai_theory.proofs.Near.{IsNear}
 use Rattle.plai_theory.proofs.Count.{near_row}
 use Rattle.plai_theory.proofs.Over.{near_over}
@@ -28,20 +29,21 @@ use Rattle.plai_rounds.specs.declared.analyse_fail.AnalyseFail.TheVariants.{Memo
 use Rattle.plai_rounds.specs.Names.{rows_of, names_of}
 use Rattle.plai_rounds.specs.Adding.{IsFull, StopsAdding}
 use Rattle.plai_rounds.specs.Making.{IsMaking, TellsOver}
-use Rattle.plai_rounds.specs.Causes.{AreTooMany, IsClauseOf, IsOverThere, HasCause}
+use Rattle.plai_rounds.specs.Causes.{AreTooMany, IsAskedFor, IsClauseOf, IsOverThere, HasCause}
 use Rattle.plai_rounds.proofs.Lists.{length_map, get_in}
 use Rattle.plai_rounds.proofs.Evaluated.{is_over}
 use Rattle.plai_rounds.proofs.Making.{names_same, has_name, names_distinct, adds_making}
 
+-- a member of a list with one more
+in_push_row : {A : Type 0} {P : Type 0} (xs : List A) (y x : A) → IsIn x (xs ++ y ∷ []) → (IsIn x xs → P) → (y ≡ x → P) → P
+in_push_row [] y x (inl e) h k = k e
+in_push_row [] y x (inr i) h k = absurd i
+in_push_row (z ∷ xs) y x (inl e) h k = h (inl e)
+in_push_row (z ∷ xs) y x (inr i) h k = in_push_row xs y x i (λ j. h (inr j)) k
+
 module _ (p : PlainDomain) (laws : IsLawful p) (program : ProgramView) (good : IsWellFormed program) (limit : ℕ) where
   theory_laws : theory.IsLawful (as_domain p) (as_program p program)
   theory_laws = lawful_at p laws program good
-
-  -- so many different names, each near to what stages reach, lie at or below those of the least table
-  pub too_many : (names : List (Name PredKey Abs)) → length names ≡ limit + 1 → AreDistinct names
-      → ((x : Name PredKey Abs) → IsIn x names → IsNear (as_domain p) (as_program p program) x) → AreTooMany p program limit
-  too_many names long distinct near table least =
-      (names, long, distinct, λ x i. near_row (as_domain p) (as_program p program) theory_laws (before p) (strict p) least.0 (map (row_of p) table) least.1 x (near x i))
 
   pub made_near : (rows : List (Row (as_domain p))) → IsMade (as_domain p) (as_program p program) rows → (x : Name PredKey Abs) → IsIn x (names_of p rows)
       → IsNear (as_domain p) (as_program p program) x
@@ -58,6 +60,29 @@ module _ (p : PlainDomain) (laws : IsLawful p) (program : ProgramView) (good : I
       last [] = inl refl
       last (r ∷ rows) = inr (last rows)
 
+  -- so many different names that are asked for lie at or below those of the least table
+  pub too_many : (names : List (Name PredKey Abs)) → length names ≡ limit + 1 → AreDistinct names
+      → ((x : Name PredKey Abs) → IsIn x names → IsAskedFor p program x) → AreTooMany p program limit
+  too_many names long distinct asked = record {
+    names = names;
+    many = long;
+    distinct = distinct;
+    asked = asked;
+    below = λ table least x i.
+        let (rows, made, ask) = asked x i in
+        near_row (as_domain p) (as_program p program) theory_laws (before p) (strict p) least.0 (map (row_of p) table) least.1 x (asked_near rows rows made made x ask);
+  }
+
+  -- so is the name of each row that rounds make
+  made_asked : (rows : List (Row (as_domain p))) → IsMade (as_domain p) (as_program p program) rows → (r : Row (as_domain p)) → IsIn r rows → IsAskedFor p program r.name
+  made_asked rows Begin r i = absurd i
+  made_asked rows (Add {rows = old} {seen = seen} x made made_seen ask) r i = in_push_row old (record { name = x; answer = None }) r i (λ j. made_asked old made r j) (λ e. subst (λ (q : Row (as_domain p)). IsAskedFor p program q.name) e (seen, made_seen, ask))
+  made_asked rows (Raise {rows = old} {seen = seen} x c made made_seen inside) r i =
+      map_in (λ (q : Row (as_domain p)). IsAskedFor p program q.name) (after_raising (as_domain p) x (answer_of (as_domain p) (source_of (as_domain p) seen) c x.call)) old r i (λ q j. made_asked old made q j)
+
+  pub name_asked : (rows : List (Row (as_domain p))) → IsMade (as_domain p) (as_program p program) rows → (x : Name PredKey Abs) → IsIn x (names_of p rows) → IsAskedFor p program x
+  name_asked rows made x i = let (r, j, e) = has_name p rows x i in subst (IsAskedFor p program) e (made_asked rows made r j)
+
   -- Theorem: adding names that are asked for stops only where there are too many.
   pub adding_cause : (V : Type 0) (value_of : V → Abs) (names : List (Name PredKey Abs)) (old : List (Key V × Option V)) (seen : List (Row (as_domain p)))
       → IsMade (as_domain p) (as_program p program) seen → ((x : Name PredKey Abs) → IsIn x names → IsAsked (as_domain p) (as_program p program) seen x)
@@ -73,13 +98,13 @@ module _ (p : PlainDomain) (laws : IsLawful p) (program : ProgramView) (good : I
         e,
         too_many (full.name ∷ names_of p (rows_of value_of p full.rows)) (omega arith)
             (λ i. full.absent (subst (IsIn full.name) (names_same value_of p full.rows) i), names_distinct p (rows_of value_of p full.rows) mid.distinct)
-            (λ x i. near x full mid i),
+            (λ x i. ask x full mid i),
       )
     where
-      near : (x : Name PredKey Abs) (full : IsFull V value_of limit names old) → IsMaking p program limit (rows_of value_of p full.rows) → IsIn x (full.name ∷ names_of p (rows_of value_of p full.rows))
-          → IsNear (as_domain p) (as_program p program) x
-      near x full mid (inl e) = subst (IsNear (as_domain p) (as_program p program)) e (asked_near (rows_of value_of p full.rows) seen mid.made made full.name (asked full.name full.is_name))
-      near x full mid (inr i) = made_near (rows_of value_of p full.rows) mid.made x i
+      ask : (x : Name PredKey Abs) (full : IsFull V value_of limit names old) → IsMaking p program limit (rows_of value_of p full.rows) → IsIn x (full.name ∷ names_of p (rows_of value_of p full.rows))
+          → IsAskedFor p program x
+      ask x full mid (inl e) = subst (IsAskedFor p program) e (seen, made, asked full.name full.is_name)
+      ask x full mid (inr i) = name_asked (rows_of value_of p full.rows) mid.made x i
   adding_cause V value_of names old seen made asked making (Groups row clause literal place) stop = absurd stop
 
   -- Theorem: an evaluation of a row that rounds make forms a set of too many groups only where the program does.

@@ -29,13 +29,13 @@ use Rattle.plai_rounds.specs.Adding.{Adds, Same, Next, AddsAll, IsFull, StopsAdd
 use Rattle.plai_rounds.specs.declared.change.Change.TheVariants.{Nothing}
 use Rattle.plai_rounds.specs.Making.{IsMaking, IsEvaluation, IsSettling}
 use Rattle.plai_rounds.specs.Reaching.{IsReaching, IsDone, IsReachStep, HasCalls, HasAllCalls}
-use Rattle.plai_rounds.specs.Causes.{HasCause}
+use Rattle.plai_rounds.specs.Causes.{IsAskedFor, HasCause}
 use Rattle.plai_rounds.proofs.Lists.{map_push, length_push, length_map, place_of, get_in, get_map, get_some, get_within}
 use Rattle.plai_rounds.proofs.Working.{entry_at}
 use Rattle.plai_rounds.proofs.Sweeping.{below_next}
 use Rattle.plai_rounds.proofs.Making.{names_same, names_distinct, adds_keeps, adds_making}
 use Rattle.plai_rounds.proofs.Ends.{reached_in}
-use Rattle.plai_rounds.proofs.Causes.{too_many, made_near, adding_cause}
+use Rattle.plai_rounds.proofs.Causes.{too_many, made_near, name_asked, adding_cause}
 
 -- the name that an entry asks for
 abbrev pub entry_pair : PlainDomain → Entry → Name PredKey Abs
@@ -128,6 +128,9 @@ module _ (p : PlainDomain) (laws : IsLawful p) (program : ProgramView) (good : I
   pub name_reached : (x : Name PredKey Abs) → IsReached x → IsIn x (names_of p rows)
   name_reached x (k, r) = reached_in p laws program good limit rows done.making done.quiet done.entries k x r
 
+  reached_asked : (x : Name PredKey Abs) → IsReached x → IsAskedFor p program x
+  reached_asked x r = name_asked p laws program good limit rows done.making.made x (name_reached x r)
+
   pub reached_call : (x : Name PredKey Abs) → IsReached x → p.Leq x.pred.arity x.call x.call
   reached_call x (k, r) =
       reached_value (as_domain p) (as_program p program) (lawful_at p laws program good) (source_of (as_domain p) rows)
@@ -165,9 +168,9 @@ module _ (p : PlainDomain) (laws : IsLawful p) (program : ProgramView) (good : I
         (e, too_many p laws program good limit (full.name ∷ names_in value_of full.rows) (omega arith) (full.absent, distinct) (at full near))
       where
         at : (full : IsFull V value_of limit names old) → ((x : Name PredKey Abs) → IsIn x (names_in value_of full.rows) → IsReached x)
-            → (x : Name PredKey Abs) → IsIn x (full.name ∷ names_in value_of full.rows) → IsNear (as_domain p) (as_program p program) x
-        at full near x (inl e) = subst (IsNear (as_domain p) (as_program p program)) e (reached_near full.name (all_reached full.name full.is_name))
-        at full near x (inr i) = reached_near x (near x i)
+            → (x : Name PredKey Abs) → IsIn x (full.name ∷ names_in value_of full.rows) → IsAskedFor p program x
+        at full near x (inl e) = subst (IsAskedFor p program) e (reached_asked full.name (all_reached full.name full.is_name))
+        at full near x (inr i) = reached_asked x (near x i)
     reach_cause (Groups row clause literal place) stop = absurd stop
 
 -- steps, one after another

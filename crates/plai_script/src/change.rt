@@ -458,7 +458,8 @@ fn change_all(alloc: Global, program: &mut Program, edits: &[Edit]) -> Result<()
 /// The program after an edit. The one before it stays as it is.
 ///
 /// `Refused` comes exactly where the edit is refused, with the first cause: of its parts in order, where it is an `all`, each
-/// judged after those before it.
+/// judged after those before it. `Memory` may come at any edit. The terms in the edit are as those that were read: see
+/// [`read_edit`](crate::read_edit).
 pub fn apply(alloc: Global, program: &Program, edit: &Edit) -> Result<Program, EditFail>
     requires readable { IsReadableEdit edit.now }
     ensures answer { Answers (edited program.now edit.now) result }

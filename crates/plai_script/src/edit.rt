@@ -5,7 +5,8 @@ use plai_terms::{Listed, Name, ReadTerm};
 use std::alloc::{AllocError, Global};
 
 /// An edit of a program. Numbers count from 1, and they close up when something is taken away. Each term has its own
-/// variables, numbered from 0 by first appearance.
+/// variables, numbered from 0 by first appearance. An arity is one from 0 to 16 where the edit was read, and a number any
+/// integer of 128 bits: one that names nothing is refused when the edit is carried out.
 #[derive(Debug, Drop)]
 pub enum Edit {
     /// The clause that the term says becomes the last one of its predicate in the module.
@@ -62,7 +63,7 @@ impl Edit {
         Ok(copies)
     }
 
-    /// An equal edit.
+    /// An equal edit, or want of memory.
     #[cycle(copy)]
     pub fn copy(&self, alloc: Global) -> Result<Edit, AllocError>
         ensures { IfOk result (λ edit. edit ≡ self.now) }

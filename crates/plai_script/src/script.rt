@@ -95,7 +95,7 @@ fn take(
 /// term can't be read with the standard operators, `BadEdit` exactly where it can and is no edit. The text has fewer than
 /// 2^31 bytes.
 ///
-/// `Lex` comes exactly where the text has a place without a token, with the first one.
+/// `Lex` comes exactly where the text has a place without a token, with the first one; `Memory` may come at any text.
 pub fn read_script(alloc: Global, text: &[u8]) -> Result<Vec<Result<Edit, EditCause>>, ScriptFail>
     requires short { length text.now < 2 ^ 31 }
     ensures answer { AnswersScript (script_of text.now) result }

@@ -237,7 +237,9 @@ fn edit(alloc: Global, limit: u32, term: &Term) -> Result<Edit, Stop>
     }
 }
 
-/// The edit that a term is. `BadEdit` comes exactly where it has none of the shapes of an edit, and no other cause does.
+/// The edit that a term is. `BadEdit` comes exactly where it has none of the shapes of an edit, and no other cause does; want
+/// of memory may come at any term. The term is as one that was read: its variables are numbered below how many it says, which
+/// is below 2^31, and no compound in it has more than 255 arguments.
 pub fn read_edit(alloc: Global, term: &ReadTerm) -> Result<Edit, EditFail>
     requires readable { IsReadable term.now }
     ensures answer { Answers (ok_or (edit_of term.now) BadEdit) result }

@@ -40,8 +40,8 @@ impl<D: Domain> Model for Session<D> {
 }
 
 impl<D: Domain> Session<D> {
-    /// Begins with a program and analyses it, as edit 0: the work begins with `Mark(0)`. It never answers `Refused`. There is
-    /// no session after want of memory.
+    /// Begins with a program and analyses it, as edit 0, with at most `limit` rows in the making: the work begins with
+    /// `Mark(0)`. It never answers `Refused`. There is no session after want of memory.
     pub fn open<W: Work, L: Ledger>(
         alloc: Global,
         domain: D,
@@ -68,7 +68,8 @@ impl<D: Domain> Session<D> {
 
     /// Carries out the edit of this number. Refused exactly where the edit is, by its first cause: the session, the work and
     /// the steps are as before. Else the program is the edited one, the work of its analysis begins with `Mark(number)`, and the
-    /// session has its table, or none after a stop.
+    /// session has its table, or none after a stop. The terms in the edit are as those that were read: see
+    /// [`read_edit`](plai_script::read_edit).
     ///
     /// After want of memory the program is that from before the edit, there is no table, and every later edit answers want of
     /// memory.
