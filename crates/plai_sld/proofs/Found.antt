@@ -37,12 +37,15 @@ module _ (program : ProgramView) (pred : PredKey) (args : List Term) (rest : Lis
   pub at_call : (items : List Item) (next : Next) → items ≡ Call pred args ∷ items_of rest → IsNextAtCall program pred args rest n choice next → IsNext program items rest n choice next
   at_call items next e h = subst (λ xs. IsNext program xs rest n choice next) (sym e) (with_clause (numbered_clause (clauses_of program pred) choice) next refl h)
 
+-- the front of a stack
+pub front_is : (stack rest : List Waiting) (w : Waiting) → stack ≡ rest ++ w ∷ [] → items_of stack ≡ w.item ∷ items_of rest
+front_is stack rest w is = ap items_of is ∙ items_of-append rest (w ∷ [])
+
 -- what the front and the rest of a stack come to is what the stack comes to
 pub on_stack_of : (program : ProgramView) (stack rest : List Waiting) (w : Waiting) (n choice : ℕ) (next : Next) → stack ≡ rest ++ w ∷ [] → IsNext program (w.item ∷ items_of rest) rest n choice next
     → IsNext program (items_of stack) stack n choice next
 on_stack_of program stack rest w n choice next is h =
-    let front : items_of stack ≡ w.item ∷ items_of rest = ap items_of is ∙ items_of-append rest (w ∷ []) in
-    subst (λ xs. IsNext program xs stack n choice next) (sym front) (moved next h)
+    subst (λ xs. IsNext program xs stack n choice next) (sym (front_is stack rest w is)) (moved next h)
   where
     moved : (next : Next) → IsNext program (w.item ∷ items_of rest) rest n choice next → IsNext program (w.item ∷ items_of rest) stack n choice next
     moved (Stays stepped) h = h

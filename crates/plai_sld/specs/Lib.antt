@@ -5,6 +5,7 @@ pub mod States
 pub mod Codes
 pub mod Stacks
 pub mod Steps
+pub mod Fronts
 pub mod Nexts
 pub mod Described
 pub mod Verdicts

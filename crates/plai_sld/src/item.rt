@@ -1,8 +1,11 @@
-ghost use Rattle.std.specs.Prelude.{◌≡◌, ◌++◌, IfOk};
+ghost use Rattle.std.specs.Prelude.{◌≡◌, List, ◌∷◌, ◌++◌, IfOk};
 ghost use Rattle.plai_terms.specs.Subst.{bound_to};
 ghost use Rattle.plai_terms.specs.Substitution.{then_also};
+ghost use Rattle.plai_sld.specs.declared.item.Item.{Item};
+ghost use Rattle.plai_sld.specs.Fronts.{IsFront};
 ghost use Rattle.plai_sld.specs.Runs.{item_under, items_under, goal_of, goals_of};
 
+use crate::front::Front;
 use crate::terms::{copy_terms, terms_under};
 use plai_clauses::{Literal, Target};
 use plai_terms::{Listed, Name, PredKey, Subst, Term};
@@ -50,6 +53,17 @@ impl Item {
             Target::Pred(pred) => Ok(Item::Call(pred.copy(alloc)?, args)),
             Target::Builtin => Ok(Item::Builtin(literal.name.copy(alloc)?, args)),
         }
+    }
+}
+
+// What a list is said to begin with that begins with the item.
+pub(crate) fn front_of(item: &Item) -> Front<'_>
+    ensures { (rest : List Item) → IsFront (item.now ∷ rest) result }
+{
+    match item {
+        Item::Call(pred, args) => Front::Call(pred, args.as_slice()),
+        Item::Builtin(_, _) => Front::Builtin,
+        Item::Mark(pred, was, now) => Front::Mark(pred, was.as_slice(), now.as_slice()),
     }
 }
 

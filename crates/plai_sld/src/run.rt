@@ -8,9 +8,11 @@ ghost use Rattle.plai_sld.specs.Stacks.{items_of, AreLimited};
 ghost use Rattle.plai_sld.specs.States.{IsItem, AreItems};
 ghost use Rattle.plai_sld.specs.Steps.{greatest_number, Answers};
 ghost use Rattle.plai_sld.specs.declared.item.Item.TheVariants.{Call, Builtin};
+ghost use Rattle.plai_sld.specs.Fronts.{IsFront};
 ghost use Rattle.plai_sld.specs.Nexts.{IsNextAtClause, IsNextAtCall, IsNextAtBuiltin, IsNext};
 
-use crate::item::{Item, push_goals};
+use crate::front::Front;
+use crate::item::{Item, front_of, push_goals};
 use crate::limits::{limit_in, past};
 use crate::stack::{Waiting, push_under, replace_top, unbound_below, untouched};
 use crate::stepped::Stepped;
@@ -235,6 +237,16 @@ impl Run {
         let item = Item::Call(pred.copy(alloc)?, Listed::new(copy_terms(alloc, args)?));
         let stack = vec![in alloc; Waiting { item, limit: next }]?;
         Ok(Run { stack, next })
+    }
+
+    /// What stands at the front: nothing exactly where nothing is left, a goal, or a mark. It takes no memory.
+    pub fn front(&self) -> Front<'_>
+        ensures { IsFront self.now.items result }
+    {
+        match self.stack.split_last() {
+            None => Front::Nothing,
+            Some((first, _)) => front_of(&first.item),
+        }
     }
 
     /// Takes a step. Where nothing is left, it answers `Done`. A mark at the front is taken away. A goal at the front takes no
