@@ -1,0 +1,4 @@
+pub mod Solved
+pub mod Reached
+pub mod Gathering
+pub mod Output
