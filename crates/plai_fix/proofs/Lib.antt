@@ -19,3 +19,16 @@ pub mod Queued
 pub mod Measured
 pub mod Lowering
 pub mod Extended
+pub mod Telling
+pub mod TableRows
+pub mod Evaluations
+pub mod GrownPairs
+pub mod Placed
+pub mod Closes
+pub mod Popped
+pub mod Shifted
+pub mod Works
+pub mod EntryKeys
+pub mod EntryMarks
+pub mod OpenedRows
+pub mod Finished

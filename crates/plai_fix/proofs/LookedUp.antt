@@ -9,7 +9,7 @@ use Rattle.plai_theory.proofs.Options.{by_test}
 use Rattle.plai_fix.specs.WorkStates.{KeptRow, IsNamed}
 use Rattle.plai_fix.specs.LookUps.{Looks, Begin, Found, Missed}
 
-any_push : (p : ℕ → Bool) (xs : List ℕ) (x : ℕ) → list_any p (xs ++ x ∷ []) ≡ (list_any p xs || p x)
+pub any_push : (p : ℕ → Bool) (xs : List ℕ) (x : ℕ) → list_any p (xs ++ x ∷ []) ≡ (list_any p xs || p x)
 any_push p [] x = by_test (p x) (λ t. rw t refl) (λ t. rw t refl)
 any_push p (y ∷ xs) x = by_test (p y) (λ t. rw t refl) (λ t. rw t (any_push p xs x))
 
@@ -25,16 +25,16 @@ or_cases : {P : Type 0} (p q : Bool) → (p || q) ≡ true → (p ≡ true → P
 or_cases true q e h k = h refl
 or_cases false q e h k = k e
 
-in_left : {A : Type 0} (xs ys : List A) (x : A) → IsIn x xs → IsIn x (xs ++ ys)
+pub in_left : {A : Type 0} (xs ys : List A) (x : A) → IsIn x xs → IsIn x (xs ++ ys)
 in_left [] ys x i = absurd i
 in_left (y ∷ xs) ys x (inl e) = inl e
 in_left (y ∷ xs) ys x (inr i) = inr (in_left xs ys x i)
 
-in_last : {A : Type 0} (xs : List A) (x : A) → IsIn x (xs ++ x ∷ [])
+pub in_last : {A : Type 0} (xs : List A) (x : A) → IsIn x (xs ++ x ∷ [])
 in_last [] x = inl refl
 in_last (y ∷ xs) x = inr (in_last xs x)
 
-in_push : {A : Type 0} {P : Type 0} (xs : List A) (y x : A) → IsIn x (xs ++ y ∷ []) → (IsIn x xs → P) → (y ≡ x → P) → P
+pub in_push : {A : Type 0} {P : Type 0} (xs : List A) (y x : A) → IsIn x (xs ++ y ∷ []) → (IsIn x xs → P) → (y ≡ x → P) → P
 in_push [] y x (inl e) h k = k e
 in_push [] y x (inr i) h k = absurd i
 in_push (z ∷ xs) y x (inl e) h k = h (inl e)

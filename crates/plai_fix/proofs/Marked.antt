@@ -46,10 +46,10 @@ less a b h = grind (arith, nat_tests)
 pub not_lt : (a b : ℕ) → b ≤ a → nat_lt a b ≡ false
 not_lt a b h = grind (arith, nat_tests)
 
-is_less : (a b : ℕ) → nat_lt a b ≡ true → a < b
+pub is_less : (a b : ℕ) → nat_lt a b ≡ true → a < b
 is_less a b e = grind (arith, nat_tests)
 
-not_less : (a b : ℕ) → nat_lt a b ≡ false → b ≤ a
+pub not_less : (a b : ℕ) → nat_lt a b ≡ false → b ≤ a
 not_less a b e = grind (arith, nat_tests)
 
 pub of_range : (last k : ℕ) → 0 < k → k ≤ last → is_number last k ≡ true

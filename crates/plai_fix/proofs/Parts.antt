@@ -1,5 +1,5 @@
 -- Parts of steps: joins of answers, and what is told of a row by its name.
-use Rattle.std.proofs.Common.{◌≡◌, ℕ, zero, suc, ◌-◌, ◌≤◌, Bool, true, false, cond, not, ◌&&◌, nat_eq, nat_lt, eqb-true, count_by, List, [], ◌∷◌, slice_get, Option, Some, None, Result, Ok, Err, OnOk, IfOk, IfErr, IfSome, IfNone, sym, refl, ap, ◌∙◌, subst, arith}
+use Rattle.std.proofs.Common.{◌≡◌, ℕ, zero, suc, ◌-◌, ◌≤◌, Bool, true, false, cond, not, ◌&&◌, nat_eq, nat_lt, eqb-true, count_by, List, [], ◌∷◌, slice_get, Option, Some, None, Result, Ok, Err, OnOk, OnErr, IfOk, IfErr, IfSome, IfNone, sym, refl, ap, ◌∙◌, subst, arith}
 use Rattle.std.proofs.lemmas.Bool.{eq-eqb}
 use Rattle.std.specs.Option.{option_map}
 use Rattle.std.specs.List.{list_any}
@@ -28,6 +28,10 @@ none_more P Q (Err e) h k = tt
 pub if_err : {T E : Type 0} (P Q : E → Type 0) (r : Result T E) → IfErr r P → ((e : E) → P e → Q e) → IfErr r Q
 if_err P Q (Ok x) h k = tt
 if_err P Q (Err e) h k = k e h
+
+pub err_any : {T E : Type 0} (P : Type 0) (r : Result T E) → P → OnErr r P
+err_any P (Ok x) h = tt
+err_any P (Err e) h = h
 
 pub ok_more : {T E : Type 0} (P Q : Type 0) (r : Result T E) → OnOk r P → (P → Q) → OnOk r Q
 ok_more P Q (Ok x) h k = k h

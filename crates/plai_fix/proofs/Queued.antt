@@ -64,3 +64,9 @@ popped_first dirty (z ∷ zs) new (Some x) row queued e f perm same clean =
 pub when_none : {A : Type 0} (P Q : Type 0) (o : Option A) → IfNone o P → (P → Q) → IfNone o Q
 when_none P Q None h k = k h
 when_none P Q (Some x) h k = tt
+
+-- the pairs that are marked are queued
+pub queued_more : (dirty new : ℕ → ℕ → Bool) (pairs : List (ℕ × ℕ)) (old later : List ℕ) → IsQueued dirty old → ((r c : ℕ) → new r c ≡ (list_any (is_pair r c) pairs || dirty r c))
+    → ((n m : ℕ) → list_any (is_pair n m) pairs ≡ true → Contains later n) → ((n : ℕ) → Contains old n → Contains later n) → IsQueued new later
+queued_more dirty new pairs old later queued marked own others n m e =
+    or_cases (list_any (is_pair n m) pairs) (dirty n m) (sym (marked n m) ∙ e) (own n m) (λ t. others n (queued n m t))

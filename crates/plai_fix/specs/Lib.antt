@@ -8,3 +8,7 @@ pub mod Marks
 pub mod Pairs
 pub mod Measures
 pub mod Queues
+pub mod Told
+pub mod Solving
+pub mod Moves
+pub mod Stops

@@ -5,14 +5,24 @@
 #![tactic(auto)]
 
 mod calling;
+mod change;
+mod closing;
+mod entries;
 mod evaluation;
+mod growing;
 mod joining;
 mod laws;
 mod looking;
 mod marking;
+mod notes;
+mod pair_work;
+mod placing;
 mod present;
 mod queue;
+mod settling;
 mod solve_fail;
+mod solving;
+mod task;
 mod work_laws;
 
 pub use calling::{callers_of, set_pair_calls};
@@ -23,4 +33,5 @@ pub use looking::{look_up, look_up_all};
 pub use marking::{mark_clauses, mark_pairs};
 pub use queue::{next_pair, push_row, push_rows};
 pub use solve_fail::SolveFail;
+pub use solving::solve;
 pub use work_laws::{fall_laws, pair_laws, placing_laws};

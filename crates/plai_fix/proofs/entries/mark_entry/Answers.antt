@@ -1,0 +1,49 @@
+use Rattle.std.proofs.Common.{◌≡◌, ◌++◌, ◌∷◌, [], true, Some, None, position, sym, ap, ◌∙◌, subst}
+use Rattle.plai_table.specs.Rows.{names_of}
+use Rattle.plai_fix.specs.Tables.{key_name, kept_rows}
+use Rattle.plai_fix.specs.Stops.{AreMarkedAs}
+use Rattle.plai_fix.proofs.Keys.{same_key, found_named, absent_named}
+use Rattle.plai_fix.proofs.EntryMarks.{entry_kept, marked_more, marked_none}
+use Rattle.plai_fix.proofs.entries.mark_entry.Goals as goal
+
+pub returns-in-Some-clause-same : goal.returns-in-Some-clause-same
+returns-in-Some-clause-same g c =
+    let p = g.D.Domain.plain c.args._domain.now in
+    let value_of = g.D.Domain.value_of in
+    ap (kept_rows value_of p) c.set_entry.ensures.rows ∙ entry_kept _ value_of p c.args.table.now.rows c.in-Some.row true
+
+pub returns-in-Some-clause-marked : goal.returns-in-Some-clause-marked
+returns-in-Some-clause-marked g c =
+    let p = g.D.Domain.plain c.args._domain.now in
+    let value_of = g.D.Domain.value_of in
+    let rows = c.args.table.now.rows in
+    let at : position (same_key _ value_of g.D.Value.PartialEq.eq g.met.D.Domain.equal c.args.key.now) (names_of rows) ≡ Some c.in-Some.row = sym c.in-Some.ensures in
+    λ names marked.
+    subst (AreMarkedAs value_of (names ++ key_name value_of c.args.key.now ∷ [])) (sym c.set_entry.ensures.rows)
+    (marked_more _ value_of p rows names (key_name value_of c.args.key.now) marked c.in-Some.row
+    (found_named _ value_of g.D.Value.PartialEq.eq g.met.D.Domain.equal p c.args.key.now rows c.in-Some.row at) c.requires)
+
+pub returns-in-Some-clause-found : goal.returns-in-Some-clause-found
+returns-in-Some-clause-found g c =
+    let p = g.D.Domain.plain c.args._domain.now in
+    let value_of = g.D.Domain.value_of in
+    let rows = c.args.table.now.rows in
+    let at : position (same_key _ value_of g.D.Value.PartialEq.eq g.met.D.Domain.equal c.args.key.now) (names_of rows) ≡ Some c.in-Some.row = sym c.in-Some.ensures in
+    λ e. (c.in-Some.row, found_named _ value_of g.D.Value.PartialEq.eq g.met.D.Domain.equal p c.args.key.now rows c.in-Some.row at)
+
+pub returns-in-None-clause-marked : goal.returns-in-None-clause-marked
+returns-in-None-clause-marked g c =
+    let p = g.D.Domain.plain c.args._domain.now in
+    let value_of = g.D.Domain.value_of in
+    let rows = c.args.table.now.rows in
+    let none : position (same_key _ value_of g.D.Value.PartialEq.eq g.met.D.Domain.equal c.args.key.now) (names_of rows) ≡ None = sym c.in-None.ensures in
+    λ names marked.
+    marked_none _ value_of p rows names (key_name value_of c.args.key.now) marked (absent_named _ value_of g.D.Value.PartialEq.eq g.met.D.Domain.equal p c.args.key.now rows none)
+
+pub returns-in-None-clause-absent : goal.returns-in-None-clause-absent
+returns-in-None-clause-absent g c =
+    let p = g.D.Domain.plain c.args._domain.now in
+    let value_of = g.D.Domain.value_of in
+    let rows = c.args.table.now.rows in
+    let none : position (same_key _ value_of g.D.Value.PartialEq.eq g.met.D.Domain.equal c.args.key.now) (names_of rows) ≡ None = sym c.in-None.ensures in
+    λ e. absent_named _ value_of g.D.Value.PartialEq.eq g.met.D.Domain.equal p c.args.key.now rows none

@@ -1,0 +1,32 @@
+use Rattle.std.proofs.Common.{◌-◌, heap_items}
+use Rattle.plai_arcs.specs.Arcs.{is_dirty}
+use Rattle.plai_eval.specs.Meaning.{as_domain}
+use Rattle.plai_fix.specs.WorkStates.{Extends}
+use Rattle.plai_fix.specs.Measures.{kept_room}
+use Rattle.plai_fix.specs.Tables.{kept_rows, state_of}
+use Rattle.plai_fix.specs.Queues.{IsQueued}
+use Rattle.plai_fix.specs.Solving.{IsAtWork}
+use Rattle.plai_fix.proofs.settling.settle.Given as goal
+
+-- what was told and counted at the start
+abbrev pub ghost-work_answers : goal.ghost-work_answers
+ghost-work_answers g a = g.begun
+
+-- work goes on from the start
+abbrev pub invariant-loop : goal.invariant-loop
+invariant-loop g l =
+    let p = g.D.Domain.plain l.task.domain.now in
+    let value_of = g.D.Domain.value_of in
+    let old = kept_rows value_of p l.initial.table.rows in
+    let now = kept_rows value_of p l.table.rows in
+    record {
+      at_work : IsAtWork p l.task.program.now l.task.limit g.begun.told (g.W.Work.entries l.work) (l.steps - g.begun.steps) (state_of value_of p l.table.rows l.arcs) (is_dirty l.unmet);
+      queued : IsQueued (is_dirty l.arcs) (heap_items l.queue);
+      extends : Extends (as_domain p) old now;
+    }
+
+-- the room for rows and first answers
+abbrev pub decreases-loop : goal.decreases-loop
+decreases-loop g l =
+    let p = g.D.Domain.plain l.task.domain.now in
+    kept_room (as_domain p) l.task.limit (kept_rows g.D.Domain.value_of p l.table.rows)

@@ -1,0 +1,51 @@
+-- Logs of legal work as they are told: the entries that are noted, in order, and what the evaluations among them cost
+-- (Hermenegildo, Puebla, Marriott and Stuckey 2000). Clauses are counted from 0 in logs, from 1 in what is told.
+use Rattle.std.specs.Prelude.{◌≡◌, ℕ, suc, ◌+◌, ◌≤◌, List, [], ◌∷◌, ◌++◌, Option, Some, None}
+use Rattle.plai_theory.specs.Words.{given, item}
+use Rattle.plai_theory.specs.LegalWork.{LogEntry, Made, Woke, Evaluated, Grew}
+use Rattle.plai_domain.specs.declared.work.WorkEntry.{WorkEntry}
+use Rattle.plai_domain.specs.declared.work.WorkEntry.TheVariants as entries
+use Rattle.plai_domain.specs.Plain.{PlainDomain}
+use Rattle.plai_clauses.specs.Program.{ProgramView, clauses_of}
+use Rattle.plai_eval.specs.Meaning.{row_name, as_domain}
+use Rattle.plai_eval.specs.Cost.{cost_of}
+
+-- what an entry of a log tells; no answer grows to none
+abbrev pub entry_told : (p : PlainDomain) → LogEntry (as_domain p) → List WorkEntry
+entry_told p (Made x) = entries.Made (row_name x) ∷ []
+entry_told p (Woke x) = entries.Woke (row_name x) ∷ []
+entry_told p (Evaluated x i) = entries.Evaluated (row_name x) (suc i) ∷ []
+entry_told p (Grew x None) = []
+entry_told p (Grew x (Some a)) = entries.Grew (row_name x) a ∷ []
+
+abbrev pub log_told : (p : PlainDomain) → List (LogEntry (as_domain p)) → List WorkEntry
+log_told p [] = []
+log_told p (e ∷ log) = entry_told p e ++ log_told p log
+
+-- what is told behind what was told at the start, where it is told
+abbrev pub told_after : (p : PlainDomain) → Option (List WorkEntry) → List (LogEntry (as_domain p)) → Option (List WorkEntry)
+told_after p None log = None
+told_after p (Some begun) log = Some (begun ++ log_told p log)
+
+-- an evaluation costs what its clause does, and one more step for the join
+abbrev pub entry_cost : (p : PlainDomain) → ProgramView → LogEntry (as_domain p) → ℕ
+entry_cost p program (Made x) = 0
+entry_cost p program (Woke x) = 0
+entry_cost p program (Evaluated x i) = given 0 (λ c. cost_of c + 1) (item (clauses_of program x.pred) i)
+entry_cost p program (Grew x a) = 0
+
+abbrev pub log_cost : (p : PlainDomain) → ProgramView → List (LogEntry (as_domain p)) → ℕ
+log_cost p program [] = 0
+log_cost p program (e ∷ log) = entry_cost p program e + log_cost p program log
+
+-- What was told, and how many steps were counted, at a start.
+pub record Start : Type 0 where
+  pub told : Option (List WorkEntry)
+  pub steps : ℕ
+
+-- There is a log of which this holds. What was told since the start is the log, and so many steps are within its cost.
+pub record HasLog (p : PlainDomain) (program : ProgramView) (begun told : Option (List WorkEntry)) (steps : ℕ) (Is : List (LogEntry (as_domain p)) → Type 0) : Type 0 where
+  pub log : List (LogEntry (as_domain p))
+  pub is : Is log
+  pub is_told : told ≡ told_after p begun log
+  pub within : steps ≤ log_cost p program log

@@ -1,0 +1,120 @@
+//! Dirty pairs, worked until none is left.
+ghost use Rattle.std.specs.Prelude.{◌≡◌, ℕ, ◌-◌, true, false, IfOk, IfErr, OnOk};
+ghost use Rattle.std.specs.BinaryHeap.{heap_items};
+ghost use Rattle.plai_clauses.specs.WellFormed.{IsWellFormed};
+ghost use Rattle.plai_arcs.specs.Arcs.{is_dirty};
+ghost use Rattle.plai_eval.specs.Meaning.{as_domain};
+ghost use Rattle.plai_fix.specs.WorkStates.{Extends};
+ghost use Rattle.plai_fix.specs.Tables.{kept_rows, state_of};
+ghost use Rattle.plai_fix.specs.Queues.{IsQueued};
+ghost use Rattle.plai_fix.specs.Told.{Start};
+ghost use Rattle.plai_fix.specs.Solving.{IsAtWork};
+ghost use Rattle.plai_fix.specs.Moves.{Rests, Settles};
+ghost use Rattle.plai_fix.specs.Stops.{Stops};
+
+use crate::change::Change;
+use crate::pair_work::work_pair;
+use crate::queue::next_pair;
+use crate::solve_fail::SolveFail;
+use crate::task::Task;
+use plai_arcs::Arcs;
+use plai_base::Steps;
+use plai_domain::{Domain, Work};
+use plai_table::Table;
+use std::collections::BinaryHeap;
+use std::sync::ledger::Ledger;
+
+/// Works dirty pairs, until none is left, an answer grows or rows come. The dirty clauses fall with each of the others.
+fn work_clauses<D: Domain, W: Work, L: Ledger>(
+    task: &Task<D>,
+    table: &mut Table<D::Value>,
+    arcs: &mut Arcs,
+    unmet: &mut Arcs,
+    queue: &mut BinaryHeap<u64>,
+    work: &mut W,
+    steps: &mut Steps<L>,
+) -> Result<Change, SolveFail>
+    ghost begun: { Start }
+    requires well_formed { IsWellFormed task.now.program.now }
+    requires at_work { IsAtWork (D.plain task.now.domain.now) task.now.program.now task.now.limit begun.told (W.entries work.old) (steps.old - begun.steps)
+        (state_of D.value_of (D.plain task.now.domain.now) table.old.rows arcs.old) (is_dirty unmet.old) }
+    requires queued { IsQueued (is_dirty arcs.old) (heap_items queue.old) }
+    ensures at_work { OnOk result (IsAtWork (D.plain task.now.domain.now) task.now.program.now task.now.limit begun.told (W.entries work.new) (steps.new - begun.steps)
+        (state_of D.value_of (D.plain task.now.domain.now) table.new.rows arcs.new) (is_dirty unmet.new)) }
+    ensures queued { OnOk result (IsQueued (is_dirty arcs.new) (heap_items queue.new)) }
+    ensures extends { OnOk result (Extends (as_domain (D.plain task.now.domain.now)) (kept_rows D.value_of (D.plain task.now.domain.now) table.old.rows)
+        (kept_rows D.value_of (D.plain task.now.domain.now) table.new.rows)) }
+    ensures rests { IfOk result (Rests (as_domain (D.plain task.now.domain.now)) task.now.limit (λ pred. (D.plain task.now.domain.now).rank)
+        (state_of D.value_of (D.plain task.now.domain.now) table.old.rows arcs.old) (state_of D.value_of (D.plain task.now.domain.now) table.new.rows arcs.new)) }
+    ensures stops { IfErr result (Stops (D.plain task.now.domain.now) task.now.program.now task.now.limit begun.told (W.entries work.new) (steps.new - begun.steps)) }
+{
+    while let Some((row, number)) = next_pair(queue, arcs) {
+        match work_pair(task, table, arcs, unmet, queue, row, number, work, steps)? {
+            Change::Nothing => {}
+            change => return Ok(change),
+        }
+    }
+    Ok(Change::Nothing)
+}
+
+/// Works dirty pairs, until none is left, or rows or first answers come. The ranks of the answers fall each other time.
+fn work_answers<D: Domain, W: Work, L: Ledger>(
+    task: &Task<D>,
+    table: &mut Table<D::Value>,
+    arcs: &mut Arcs,
+    unmet: &mut Arcs,
+    queue: &mut BinaryHeap<u64>,
+    work: &mut W,
+    steps: &mut Steps<L>,
+) -> Result<Change, SolveFail>
+    ghost begun: { Start }
+    requires well_formed { IsWellFormed task.now.program.now }
+    requires at_work { IsAtWork (D.plain task.now.domain.now) task.now.program.now task.now.limit begun.told (W.entries work.old) (steps.old - begun.steps)
+        (state_of D.value_of (D.plain task.now.domain.now) table.old.rows arcs.old) (is_dirty unmet.old) }
+    requires queued { IsQueued (is_dirty arcs.old) (heap_items queue.old) }
+    ensures at_work { OnOk result (IsAtWork (D.plain task.now.domain.now) task.now.program.now task.now.limit begun.told (W.entries work.new) (steps.new - begun.steps)
+        (state_of D.value_of (D.plain task.now.domain.now) table.new.rows arcs.new) (is_dirty unmet.new)) }
+    ensures queued { OnOk result (IsQueued (is_dirty arcs.new) (heap_items queue.new)) }
+    ensures extends { OnOk result (Extends (as_domain (D.plain task.now.domain.now)) (kept_rows D.value_of (D.plain task.now.domain.now) table.old.rows)
+        (kept_rows D.value_of (D.plain task.now.domain.now) table.new.rows)) }
+    ensures settles { IfOk result (Settles (as_domain (D.plain task.now.domain.now)) task.now.limit
+        (state_of D.value_of (D.plain task.now.domain.now) table.old.rows arcs.old) (state_of D.value_of (D.plain task.now.domain.now) table.new.rows arcs.new)) }
+    ensures stops { IfErr result (Stops (D.plain task.now.domain.now) task.now.program.now task.now.limit begun.told (W.entries work.new) (steps.new - begun.steps)) }
+{
+    loop {
+        match work_clauses(task, table, arcs, unmet, queue, work, steps)? {
+            Change::Grown => {}
+            change => return Ok(change),
+        }
+    }
+}
+
+/// Works dirty pairs, until none is left. The room for rows and first answers falls each time.
+pub(crate) fn settle<D: Domain, W: Work, L: Ledger>(
+    task: &Task<D>,
+    table: &mut Table<D::Value>,
+    arcs: &mut Arcs,
+    unmet: &mut Arcs,
+    queue: &mut BinaryHeap<u64>,
+    work: &mut W,
+    steps: &mut Steps<L>,
+) -> Result<(), SolveFail>
+    ghost begun: { Start }
+    requires well_formed { IsWellFormed task.now.program.now }
+    requires at_work { IsAtWork (D.plain task.now.domain.now) task.now.program.now task.now.limit begun.told (W.entries work.old) (steps.old - begun.steps)
+        (state_of D.value_of (D.plain task.now.domain.now) table.old.rows arcs.old) (is_dirty unmet.old) }
+    requires queued { IsQueued (is_dirty arcs.old) (heap_items queue.old) }
+    ensures at_work { OnOk result (IsAtWork (D.plain task.now.domain.now) task.now.program.now task.now.limit begun.told (W.entries work.new) (steps.new - begun.steps)
+        (state_of D.value_of (D.plain task.now.domain.now) table.new.rows arcs.new) (is_dirty unmet.new)) }
+    ensures queued { OnOk result (IsQueued (is_dirty arcs.new) (heap_items queue.new)) }
+    ensures extends { OnOk result (Extends (as_domain (D.plain task.now.domain.now)) (kept_rows D.value_of (D.plain task.now.domain.now) table.old.rows)
+        (kept_rows D.value_of (D.plain task.now.domain.now) table.new.rows)) }
+    ensures clean { OnOk result ((r c : ℕ) → is_dirty arcs.new r c ≡ false) }
+    ensures stops { IfErr result (Stops (D.plain task.now.domain.now) task.now.program.now task.now.limit begun.told (W.entries work.new) (steps.new - begun.steps)) }
+{
+    loop {
+        if work_answers(task, table, arcs, unmet, queue, work, steps)? == Change::Nothing {
+            return Ok(());
+        }
+    }
+}
