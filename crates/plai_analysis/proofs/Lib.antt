@@ -6,3 +6,4 @@ pub mod LeastRows
 pub mod LogRows
 pub mod Shown
 pub mod Causes
+pub mod Outcomes

@@ -2,3 +2,4 @@ pub mod Solved
 pub mod Reached
 pub mod Gathering
 pub mod Output
+pub mod Fails

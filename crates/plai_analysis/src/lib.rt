@@ -1,9 +1,11 @@
-//! What legal work (Hermenegildo, Puebla, Marriott and Stuckey 2000) tells where it has ended: the rows that calls reach from the
-//! entries are the least table.
+//! The analysis of a program by legal work (Hermenegildo, Puebla, Marriott and Stuckey 2000): where work has ended, the rows that
+//! calls reach from the entries are the least table.
 #![tactic(auto)]
 
+mod analysis;
 mod reach;
 mod rows;
 mod table;
 
+pub use analysis::analyse;
 pub use table::table_of_work;

@@ -3,11 +3,12 @@ ghost use Rattle.std.specs.Prelude.{IfOk};
 ghost use Rattle.plai_session.specs.Sessions.{IsAnalysed};
 
 use crate::answer::EditAnswer;
+use plai_analysis::analyse;
 use plai_base::Steps;
 use plai_clauses::Program;
 use plai_domain::{Domain, Work, WorkEntry};
 use plai_render::TextTable;
-use plai_rounds::{AnalyseFail, analyse};
+use plai_rounds::AnalyseFail;
 use std::alloc::{AllocError, Global};
 use std::sync::ledger::Ledger;
 

@@ -1,0 +1,70 @@
+//! The analysis of a program by legal work.
+ghost use Rattle.std.specs.Prelude.{◌≡◌, IfOk, IfErr, OnOk};
+ghost use Rattle.plai_eval.specs.Stops.{IsOver};
+ghost use Rattle.plai_rounds.specs.Causes.{HasCause};
+ghost use Rattle.plai_rounds.specs.Table.{IsTextTable};
+ghost use Rattle.plai_analysis.specs.Fails.{fail_of};
+
+use crate::table::table_of_work;
+use plai_arcs::Arcs;
+use plai_base::Steps;
+use plai_clauses::Program;
+use plai_domain::{Domain, Work};
+use plai_fix::{SolveFail, solve};
+use plai_render::TextTable;
+use plai_rounds::AnalyseFail;
+use plai_table::Table;
+use std::alloc::Global;
+use std::sync::ledger::Ledger;
+
+/// Why work came to no end, as why an analysis gives no table.
+fn fail_of(fail: SolveFail) -> AnalyseFail
+    ensures { result ≡ fail_of fail }
+{
+    match fail {
+        SolveFail::Memory => AnalyseFail::Memory,
+        SolveFail::Rows(limit) => AnalyseFail::Rows(limit),
+        SolveFail::Groups {
+            row,
+            clause,
+            literal,
+            place,
+        } => AnalyseFail::Groups {
+            row,
+            clause,
+            literal,
+            place,
+        },
+    }
+}
+
+/// The least table of the program under the domain, as text, in the order of a table, and what it says of the program's
+/// assertions: by work that begins with no rows and takes what is dirty, the newest row first (Hermenegildo, Puebla, Marriott
+/// and Stuckey 2000).
+///
+/// `Rows` names the limit, and comes only where more names than the limit are asked for, each at or below a name of the least
+/// table of the same predicate; so a table has at most as many rows as the limit says. `Groups` comes only where an evaluation
+/// of the program forms a set of more than 65,536 groups, names such an evaluation, and a table comes only where none does.
+pub fn analyse<D: Domain, W: Work, L: Ledger>(
+    alloc: Global,
+    domain: &D,
+    program: &Program,
+    limit: u64,
+    work: &mut W,
+    steps: &mut Steps<L>,
+) -> Result<TextTable, AnalyseFail>
+    ensures table { IfOk result (IsTextTable (D.plain domain.now) program.now limit) }
+    ensures not_over { OnOk result (¬ IsOver (D.plain domain.now) program.now) }
+    ensures causes { IfErr result (HasCause (D.plain domain.now) program.now limit) }
+{
+    program.is_program();
+    let mut table = Table::new(alloc)?;
+    let mut arcs = Arcs::new(alloc)?;
+    if let Err(fail) = solve(
+        alloc, domain, program, &mut table, &mut arcs, limit, work, steps,
+    ) {
+        return Err(fail_of(fail));
+    }
+    let found = table_of_work(alloc, domain, program, &table, &arcs, limit)?;
+    Ok(found)
+}
