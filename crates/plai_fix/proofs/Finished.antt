@@ -82,7 +82,7 @@ module _ (p : PlainDomain) (laws : domain.IsLawful p) (program : ProgramView) (g
         has_less p program begun told steps Works (IsStoppedAt p program limit) at_work steps (omega arith)
         (λ w.
         let (x, stopped, met) = stops d g lawful (as_limits p) limit (no_work d) at_work.log k unmet w clean n m mark in
-        record { name = x; stopped = stopped; met = met; clean = are_clean })
+        record { name = x; stopped = stopped; fits = w.logged.fits; met = met; clean = are_clean })
 
     -- it stops at an entry
     pub stopped_entry : (x : Name PredKey Abs) → IsIn x g.entries → ((j : ℕ) → IsNamed d k.rows j x → ⊥) → AreOpened d g limit k.rows → HasLog p program begun told steps (IsStoppedAt p program limit)
@@ -91,7 +91,7 @@ module _ (p : PlainDomain) (laws : domain.IsLawful p) (program : ProgramView) (g
         has_less p program begun told steps Works (IsStoppedAt p program limit) at_work steps (omega arith)
         (λ w.
         let (stopped, met) = stops_entry d g lawful (as_limits p) limit at_work.log k unmet w clean x inside absent full in
-        record { name = x; stopped = stopped; met = met; clean = are_clean })
+        record { name = x; stopped = stopped; fits = w.logged.fits; met = met; clean = are_clean })
 
 -- work begins with no rows
 pub begins_told : (p : PlainDomain) (program : ProgramView) (limit : ℕ) (begun told : Option (List WorkEntry)) (k : Keeping (as_domain p)) (unmet : ℕ → ℕ → Bool) → told ≡ begun → k.rows ≡ []

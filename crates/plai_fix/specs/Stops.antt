@@ -37,10 +37,11 @@ pub record IsSolvedBy (p : PlainDomain) (program : ProgramView) (limit : ℕ) (k
   pub few : live_count (as_domain p) (after_all (as_domain p) (as_program p program) (no_work (as_domain p)) log).rows ≤ limit
 
 -- The log is legal and stops where a further name is demanded: the limit of live rows is met, no clause of one is dirty, and
--- no growth is due.
+-- no growth is due. No evaluation of it forms a set of too many groups.
 pub record IsStoppedAt (p : PlainDomain) (program : ProgramView) (limit : ℕ) (log : List (LogEntry (as_domain p))) : Type 0 where
   pub name : Name PredKey Abs
   pub stopped : IsStoppedLog (as_domain p) (as_program p program) limit (no_work (as_domain p)) log name
+  pub fits : AllFit (as_domain p) (as_program p program) (as_limits p) (no_work (as_domain p)) log
   pub met : live_count (as_domain p) (after_all (as_domain p) (as_program p program) (no_work (as_domain p)) log).rows ≡ limit
   pub clean : AreClean (as_domain p) (as_program p program) (after_all (as_domain p) (as_program p program) (no_work (as_domain p)) log).rows
 

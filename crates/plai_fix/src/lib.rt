@@ -1,7 +1,7 @@
-//! Legal work on a table and its arcs (Hermenegildo, Puebla, Marriott and Stuckey 2000): what they keep of a state of work,
-//! what each step changes of them, and the parts of a step: evaluations under the rows of a table, growths, look-ups of
-//! what is called, marks, and the queue of rows that have dirty pairs. The functions of laws have empty bodies: each of their
-//! clauses is a theorem.
+//! Legal work on a table and its arcs (Hermenegildo, Puebla, Marriott and Stuckey 2000): a program is worked on from no rows
+//! until its log ends, or stops at a limit. Beside it: what table and arcs keep of a state of work, what each step changes
+//! of them, and the parts of a step, as evaluations under the rows of a table, growths, look-ups of what is called, marks,
+//! and the queue of rows that have dirty pairs. The functions of laws have empty bodies: each of their clauses is a theorem.
 #![tactic(auto)]
 
 mod calling;
