@@ -35,7 +35,8 @@ module _ (V : Type 0) (value_of : V → Abs) (p : PlainDomain) where
   changed (q ∷ rows) (suc n) (suc m) entry r e = at (changed rows n m entry r e)
     where
       at : ((m ≡ n) × ((z : TableRow V) × (slice_get rows m ≡ Some z) × (with_entry entry z ≡ r))) ⊎ ((m ≡ n → ⊥) × (slice_get rows m ≡ Some r))
-          → ((suc m ≡ suc n) × ((z : TableRow V) × (slice_get rows m ≡ Some z) × (with_entry entry z ≡ r))) ⊎ ((suc m ≡ suc n → ⊥) × (slice_get rows m ≡ Some r))
+          → ((suc m ≡ suc n) × ((z : TableRow V) × (slice_get rows m ≡ Some z) × (with_entry entry z ≡ r))) ⊎
+          ((suc m ≡ suc n → ⊥) × (slice_get rows m ≡ Some r))
       at (inl h) = inl (ap suc h.0, h.1)
       at (inr h) = inr (λ s. h.0 (let l : suc m ≡ suc n = s in omega arith), h.1)
 
@@ -49,32 +50,39 @@ module _ (V : Type 0) (value_of : V → Abs) (p : PlainDomain) where
       → (m : ℕ) (r : TableRow V) → m < n + 1 → slice_get (row_changed (with_entry false) rows n) m ≡ Some r → r.entry ≡ false
   cleared_more rows n before m r l e = at (changed rows n m false r e)
     where
-      at : ((m ≡ n) × ((q : TableRow V) × (slice_get rows m ≡ Some q) × (with_entry false q ≡ r))) ⊎ ((m ≡ n → ⊥) × (slice_get rows m ≡ Some r)) → r.entry ≡ false
+      at : ((m ≡ n) × ((q : TableRow V) × (slice_get rows m ≡ Some q) × (with_entry false q ≡ r))) ⊎ ((m ≡ n → ⊥) × (slice_get rows m ≡ Some r))
+          → r.entry ≡ false
       at (inl h) = let (q, f, s) = h.1 in sym (ap (λ (z : TableRow V). z.entry) s)
       at (inr h) = before m r (let other = h.0 in omega (arith, other)) h.1
 
-  pub cleared_all : (rows : List (TableRow V)) (n : ℕ) → n ≡ length rows → ((m : ℕ) (r : TableRow V) → m < n → slice_get rows m ≡ Some r → r.entry ≡ false) → AreMarkedAs value_of [] rows
+  pub cleared_all : (rows : List (TableRow V)) (n : ℕ) → n ≡ length rows → ((m : ℕ) (r : TableRow V) → m < n → slice_get rows m ≡ Some r → r.entry ≡ false)
+      → AreMarkedAs value_of [] rows
   cleared_all rows n long before =
       λ m r e. (λ t. let l = there rows m r e in let u : true ≡ false = sym t ∙ before m r (omega arith) e in cc, λ i. absurd i)
 
   module _ (rows : List (TableRow V)) (names : List (Name PredKey Abs)) (y : Name PredKey Abs) (marked : AreMarkedAs value_of names rows) where
     named : (n : ℕ) (r : TableRow V) → slice_get rows n ≡ Some r → IsNamed (as_domain p) (kept_rows value_of p rows) n (key_name value_of r.name)
-    named n r e = has_some (λ (z : KeptRow (as_domain p)). z.name ≡ key_name value_of r.name) (item (kept_rows value_of p rows) n) (kept_row value_of p r) (kept_at V value_of p rows n r e) refl
+    named n r e = has_some (λ (z : KeptRow (as_domain p)). z.name ≡ key_name value_of r.name) (item (kept_rows value_of p rows) n) (kept_row value_of p r)
+        (kept_at V value_of p rows n r e) refl
 
     -- the row of one more name
     pub marked_more : (j : ℕ) → IsNamed (as_domain p) (kept_rows value_of p rows) j y
-        → ((i m : ℕ) (x : Name PredKey Abs) → IsNamed (as_domain p) (kept_rows value_of p rows) i x → IsNamed (as_domain p) (kept_rows value_of p rows) m x → i ≡ m)
+        → ((i m : ℕ) (x : Name PredKey Abs) → IsNamed (as_domain p) (kept_rows value_of p rows) i x → IsNamed (as_domain p) (kept_rows value_of p rows) m x
+        → i ≡ m)
         → AreMarkedAs value_of (names ++ y ∷ []) (row_changed (with_entry true) rows j)
     marked_more j here own = λ n r e. at n r (changed rows j n true r e)
       where
         name_of : (n : ℕ) (q : TableRow V) → slice_get rows n ≡ Some q → n ≡ j → key_name value_of q.name ≡ y
-        name_of n q f s = by (item (kept_rows value_of p rows) n) (kept_at V value_of p rows n q f) (subst (λ m. IsNamed (as_domain p) (kept_rows value_of p rows) m y) (sym s) here)
+        name_of n q f s = by (item (kept_rows value_of p rows) n) (kept_at V value_of p rows n q f)
+            (subst (λ m. IsNamed (as_domain p) (kept_rows value_of p rows) m y) (sym s) here)
           where
-            by : (o : Option (KeptRow (as_domain p))) → o ≡ Some (kept_row value_of p q) → HasSome (λ (z : KeptRow (as_domain p)). z.name ≡ y) o → key_name value_of q.name ≡ y
+            by : (o : Option (KeptRow (as_domain p))) → o ≡ Some (kept_row value_of p q) → HasSome (λ (z : KeptRow (as_domain p)). z.name ≡ y) o
+                → key_name value_of q.name ≡ y
             by None e h = absurd h
             by (Some z) e h = let t : z ≡ kept_row value_of p q = cc in sym (ap (λ (w : KeptRow (as_domain p)). w.name) t) ∙ h
 
-        at : (n : ℕ) (r : TableRow V) → ((n ≡ j) × ((q : TableRow V) × (slice_get rows n ≡ Some q) × (with_entry true q ≡ r))) ⊎ ((n ≡ j → ⊥) × (slice_get rows n ≡ Some r))
+        at : (n : ℕ) (r : TableRow V) → ((n ≡ j) × ((q : TableRow V) × (slice_get rows n ≡ Some q) × (with_entry true q ≡ r))) ⊎
+            ((n ≡ j → ⊥) × (slice_get rows n ≡ Some r))
             → (r.entry ≡ true) ↔ IsIn (key_name value_of r.name) (names ++ y ∷ [])
         at n r (inl h) =
             let (q, f, s) = h.1 in
@@ -90,7 +98,8 @@ module _ (V : Type 0) (value_of : V → Abs) (p : PlainDomain) where
     pub marked_none : ((j : ℕ) → IsNamed (as_domain p) (kept_rows value_of p rows) j y → ⊥) → AreMarkedAs value_of (names ++ y ∷ []) rows
     marked_none absent = λ n r e. (
       λ u. in_left names (y ∷ []) (key_name value_of r.name) ((marked n r e).0 u),
-      λ i. in_push names y (key_name value_of r.name) i (λ k. (marked n r e).1 k) (λ s. absurd (absent n (subst (IsNamed (as_domain p) (kept_rows value_of p rows) n) (sym s) (named n r e)))),
+      λ i. in_push names y (key_name value_of r.name) i (λ k. (marked n r e).1 k) (λ s. absurd
+          (absent n (subst (IsNamed (as_domain p) (kept_rows value_of p rows) n) (sym s) (named n r e)))),
     )
 
 -- whether each name has a row, with one more name
@@ -101,14 +110,16 @@ module _ (p : PlainDomain) (old now : List (KeptRow (as_domain p))) (same : now 
   as_now : (j : ℕ) (x : Name PredKey Abs) → IsNamed (as_domain p) old j x → IsNamed (as_domain p) now j x
   as_now j x named = subst (λ ks. IsNamed (as_domain p) ks j x) (sym same) named
 
-  pub all_found : (all found : Bool) → (all ≡ true → (x : Name PredKey Abs) → IsIn x names → (j : ℕ) × IsNamed (as_domain p) old j x) → (found ≡ true → (j : ℕ) × IsNamed (as_domain p) now j y)
+  pub all_found : (all found : Bool) → (all ≡ true → (x : Name PredKey Abs) → IsIn x names → (j : ℕ) × IsNamed (as_domain p) old j x)
+      → (found ≡ true → (j : ℕ) × IsNamed (as_domain p) now j y)
       → (all && found) ≡ true → (x : Name PredKey Abs) → IsIn x (names ++ y ∷ []) → (j : ℕ) × IsNamed (as_domain p) old j x
   all_found false found h k t = cc
   all_found true false h k t = cc
   all_found true true h k t = λ x i.
       in_push names y x i (h refl x) (λ s. let (j, n) = k refl in (j, subst (IsNamed (as_domain p) old j) s (as_old j y n)))
 
-  pub one_absent : (all found : Bool) → (all ≡ false → (x : Name PredKey Abs) × IsIn x names × ((j : ℕ) → IsNamed (as_domain p) old j x → ⊥)) → (found ≡ false → (j : ℕ) → IsNamed (as_domain p) now j y → ⊥)
+  pub one_absent : (all found : Bool) → (all ≡ false → (x : Name PredKey Abs) × IsIn x names × ((j : ℕ) → IsNamed (as_domain p) old j x → ⊥))
+      → (found ≡ false → (j : ℕ) → IsNamed (as_domain p) now j y → ⊥)
       → (all && found) ≡ false → (x : Name PredKey Abs) × IsIn x (names ++ y ∷ []) × ((j : ℕ) → IsNamed (as_domain p) old j x → ⊥)
   one_absent false found h k t = let (x, i, none) = h refl in (x, in_left names (y ∷ []) x i, none)
   one_absent true false h k t = (y, in_last names y, λ j n. k refl j (as_now j y n))

@@ -50,7 +50,8 @@ clause_in (y ∷ xs) zero x e = let s : y ≡ x = cc in inl s
 clause_in (y ∷ xs) (suc i) x e = inr (clause_in xs i x e)
 
 -- the row under work of a named row
-pub named_row : (d : Domain) (g : Program d) (laws : IsLawful d g) (k : Keeping d) (open_pair : Option (ℕ × ℕ)) (rows : List (WorkRow d)) → Keeps d g k open_pair rows
+pub named_row : (d : Domain) (g : Program d) (laws : IsLawful d g) (k : Keeping d) (open_pair : Option (ℕ × ℕ)) (rows : List (WorkRow d))
+    → Keeps d g k open_pair rows
     → (n : ℕ) (x : Name d.Pred d.Value) → IsNamed d k.rows n x → (r : WorkRow d) × (item rows n ≡ Some r) × (r.name ≡ x) × ((i : ℕ) (c : d.Clause)
     → item (g.clauses r.name.pred) i ≡ Some c → k.dirty n (suc i) ≡ r.dirty i)
 named_row d g laws k open_pair rows keeps n x named = at (item k.rows n) refl named
@@ -61,7 +62,8 @@ named_row d g laws k open_pair rows keeps n x named = at (item k.rows n) refl na
     at (Some kept) e h = let (r, f, keep) = row_under d g laws k open_pair rows keeps n kept e in (r, f, sym keep.name ∙ h, keep.dirty)
 
 -- the clause of a dirty pair is there
-pub clause_there : (d : Domain) (g : Program d) (laws : IsLawful d g) (k : Keeping d) (open_pair : Option (ℕ × ℕ)) (rows : List (WorkRow d)) → Keeps d g k open_pair rows
+pub clause_there : (d : Domain) (g : Program d) (laws : IsLawful d g) (k : Keeping d) (open_pair : Option (ℕ × ℕ)) (rows : List (WorkRow d))
+    → Keeps d g k open_pair rows
     → (n : ℕ) (x : Name d.Pred d.Value) → IsNamed d k.rows n x → (m : ℕ) → k.dirty n m ≡ true → IsSome (clause_at d g x.pred m)
 clause_there d g laws k open_pair rows keeps n x named m dirty = at (item k.rows n) refl named
   where
@@ -75,7 +77,8 @@ clause_number : (d : Domain) (g : Program d) (x : d.Pred) (m : ℕ) → IsSome (
 clause_number d g x zero e = let h : IsSome {T = d.Clause} None = e in cc
 clause_number d g x (suc i) e = let l = item_within (g.clauses x) i e in (omega arith, omega arith)
 
-module _ (p : PlainDomain) (laws : domain.IsLawful p) (program : ProgramView) (good : IsWellFormed program) (limit : ℕ) (begun told : Option (List WorkEntry)) (steps : ℕ)
+module _ (p : PlainDomain) (laws : domain.IsLawful p) (program : ProgramView) (good : IsWellFormed program) (limit : ℕ)
+    (begun told : Option (List WorkEntry)) (steps : ℕ)
     (k : Keeping (as_domain p)) (unmet : ℕ → ℕ → Bool) (at_work : IsAtWork p program limit begun told steps k unmet) where
   abbrev d : Domain
   d = as_domain p
@@ -94,7 +97,10 @@ module _ (p : PlainDomain) (laws : domain.IsLawful p) (program : ProgramView) (g
   name_fits n x named = name_is_value d g lawful (as_limits p) limit at_work.log k None at_work.is.logged n x named
 
   pub answers_fit : AnswersFit p (answers_of p k.rows)
-  answers_fit = record { fit = λ name answer is e. answer_is_value d g lawful (as_limits p) limit at_work.log k None at_work.is.logged name.pred name.call answer is e }
+  answers_fit = record {
+    fit = λ name answer is e. answer_is_value d g lawful (as_limits p) limit at_work.log k None at_work.is.logged name.pred name.call
+        answer is e;
+  }
 
   module _ (n number : ℕ) (x : Name PredKey Abs) (named : IsNamed d k.rows n x) (dirty : k.dirty n number ≡ true) where
     pub number_fits : (1 ≤ number) × (number ≤ length (clauses_of program x.pred))
@@ -129,20 +135,25 @@ module _ (p : PlainDomain) (laws : domain.IsLawful p) (program : ProgramView) (g
             → HasEvaluated d g (as_limits p) limit (at_work.log ++ Evaluated x (number - 1) ∷ []) new (Some (n, number - 1)) left n (number - 1) called answer
         at_row r place same =
             let P : Name PredKey Abs → Type 0 = λ y. item (clauses_of program y.pred) (number - 1) ≡ Some clause in
-            let Q : Name PredKey Abs → Type 0 = λ y. HasEvaluated d g (as_limits p) limit (at_work.log ++ Evaluated y (number - 1) ∷ []) new (Some (n, number - 1)) left n (number - 1) called answer in
-            let e : IsEvaluation p k.rows clause r.name.call answer called = subst (λ (y : Name PredKey Abs). IsEvaluation p k.rows clause y.call answer called) (sym same) evaluation in
+            let Q : Name PredKey Abs → Type 0 = λ y. HasEvaluated d g (as_limits p) limit (at_work.log ++ Evaluated y (number - 1) ∷ []) new
+            (Some (n, number - 1)) left n (number - 1) called answer in
+            let e : IsEvaluation p k.rows clause r.name.call answer called = subst (λ (y : Name PredKey Abs). IsEvaluation p k.rows clause y.call answer
+            called) (sym same) evaluation in
             subst Q same
             (evaluates d g lawful (as_limits p) limit at_work.log k new unmet left at_work.is n (number - 1) r place clause (subst P (sym same) at_clause)
             (ap (k.dirty n) one_more ∙ dirty) e.within clears others own answer called e.answer e.calls)
 
-        pub evaluates_told : (new_told : Option (List WorkEntry)) (later : ℕ) → new_told ≡ noted (entries.Evaluated (row_name x) number) told → later ≤ steps + (cost_of clause + 1)
+        pub evaluates_told : (new_told : Option (List WorkEntry)) (later : ℕ) → new_told ≡ noted (entries.Evaluated (row_name x) number) told
+            → later ≤ steps + (cost_of clause + 1)
             → IsPastEvaluation p program limit begun new_told later new left (Some (n, number - 1)) n (number - 1) called answer
         evaluates_told new_told later noted_is few =
             let (r, place, same, rest) = named_row d g lawful k None rows at_work.is.logged.keeps n x named in
             has_more p program begun told steps (λ log. IsWorking d g (as_limits p) limit (no_work d) log k None None unmet)
-            (λ log. HasEvaluated d g (as_limits p) limit log new (Some (n, number - 1)) left n (number - 1) called answer) at_work new_told later (Evaluated x (number - 1))
+            (λ log. HasEvaluated d g (as_limits p) limit log new (Some (n, number - 1)) left n (number - 1) called answer) at_work new_told later
+            (Evaluated x (number - 1))
             (entries.Evaluated (row_name x) number) (ap (λ m. entries.Evaluated (row_name x) m ∷ []) one_more) noted_is
-            (let c : given 0 (λ (z : Clause). cost_of z + 1) (item (clauses_of program x.pred) (number - 1)) ≡ cost_of clause + 1 = ap (given 0 (λ (z : Clause). cost_of z + 1)) at_clause in omega arith)
+            (let c : given 0 (λ (z : Clause). cost_of z + 1) (item (clauses_of program x.pred) (number - 1)) ≡ cost_of clause + 1 = ap
+            (given 0 (λ (z : Clause). cost_of z + 1)) at_clause in omega arith)
             (at_row r place same)
 
         -- the dirty clauses fall
@@ -151,31 +162,37 @@ module _ (p : PlainDomain) (laws : domain.IsLawful p) (program : ProgramView) (g
             let (r, place, same, dirties) = named_row d g lawful k None rows at_work.is.logged.keeps n x named in
             let has = at_row r place same in
             let P : Name PredKey Abs → Type 0 = λ y. item (clauses_of program y.pred) (number - 1) ≡ Some clause in
-            let Q : Name PredKey Abs → Type 0 = λ y. Keeps d g new (Some (n, number - 1)) (map (after_evaluating d y (number - 1) (calls_now d g rows y (number - 1))) rows) in
+            let Q : Name PredKey Abs → Type 0 = λ y. Keeps d g new (Some (n, number - 1))
+            (map (after_evaluating d y (number - 1) (calls_now d g rows y (number - 1))) rows) in
             let keeps : Keeps d g new (Some (n, number - 1)) (map (after_evaluating d x (number - 1) (calls_now d g rows x (number - 1))) rows) =
-            subst (λ (w : Work d). Keeps d g new (Some (n, number - 1)) w.rows) (after_push d g limit (no_work d) at_work.log (Evaluated x (number - 1))) has.evaluated.logged.keeps in
+            subst (λ (w : Work d). Keeps d g new (Some (n, number - 1)) w.rows) (after_push d g limit (no_work d) at_work.log
+            (Evaluated x (number - 1))) has.evaluated.logged.keeps in
             let s = subst P (sym same) at_clause in (
               ap (kept_room d limit) clears.rows,
               ap (kept_ranks d (λ pred. p.rank)) clears.rows,
-              evaluated_dirties d g lawful k new None (Some (n, number - 1)) rows at_work.is.logged.keeps n r place (at_work.is.logged.live n r place) (number - 1) clause s
+              evaluated_dirties d g lawful k new None (Some (n, number - 1)) rows at_work.is.logged.keeps n r place (at_work.is.logged.live n r place)
+                  (number - 1) clause s
                   (sym (dirties (number - 1) clause s) ∙ ap (k.dirty n) one_more ∙ dirty) (calls_now d g rows r.name (number - 1)) (subst Q (sym same) keeps),
             )
 
       -- why an evaluation gives nothing
       pub evaluation_stops : (same_told : Option (List WorkEntry)) (later : ℕ) (fail : SolveFail) → same_told ≡ told → later ≤ steps + cost_of clause
           → TellsOver p k.rows x number clause fail → Stops p program limit begun same_told later fail
-      evaluation_stops same_told later fail e few tells = subst (λ (o : Option (List WorkEntry)). Stops p program limit begun o later fail) (sym e) (at fail tells)
+      evaluation_stops same_told later fail e few tells = subst (λ (o : Option (List WorkEntry)). Stops p program limit begun o later fail) (sym e)
+          (at fail tells)
         where
           at : (f : SolveFail) → TellsOver p k.rows x number clause f → Stops p program limit begun told later f
           at solve_fail.Memory h =
-              has_less p program begun told steps (λ log. IsWorking d g (as_limits p) limit (no_work d) log k None None unmet) _ at_work 0 (omega arith) (λ w. w.logged.legal)
+              has_less p program begun told steps (λ log. IsWorking d g (as_limits p) limit (no_work d) log k None None unmet) _ at_work 0 (omega arith)
+              (λ w. w.logged.legal)
           at (solve_fail.Rows m) h = absurd h
           at (solve_fail.Groups row at_number literal place) (is_row, is_number, over) =
               let (r, at_place, same, dirties) = named_row d g lawful k None rows at_work.is.logged.keeps n x named in
               let one = number_fits.0 in
               let P : Name PredKey Abs → Type 0 = λ y. item (clauses_of program y.pred) (number - 1) ≡ Some clause in
               let s = subst P (sym same) at_clause in
-              let source : answers_of p k.rows ≡ (λ y. present_source d rows y.pred y.call) = λ j y. kept_answers d g lawful (as_limits p) limit at_work.log k None at_work.is.logged y.pred y.call j in
+              let source : answers_of p k.rows ≡ (λ y. present_source d rows y.pred y.call) = λ j y. kept_answers d g lawful
+              (as_limits p) limit at_work.log k None at_work.is.logged y.pred y.call j in
               let behind : IsOverBehind p program limit later row number literal place at_work.log =
               record {
                 legal = at_work.is.logged.legal;

@@ -26,7 +26,8 @@ use Rattle.plai_fix.proofs.Placements.{ends_here, stops_entry}
 use Rattle.plai_fix.proofs.Values.{one_row}
 use Rattle.plai_fix.proofs.Telling.{has_less}
 
-module _ (p : PlainDomain) (laws : domain.IsLawful p) (program : ProgramView) (good : IsWellFormed program) (limit : ℕ) (begun told : Option (List WorkEntry)) (steps : ℕ)
+module _ (p : PlainDomain) (laws : domain.IsLawful p) (program : ProgramView) (good : IsWellFormed program) (limit : ℕ)
+    (begun told : Option (List WorkEntry)) (steps : ℕ)
     (k : Keeping (as_domain p)) (unmet : ℕ → ℕ → Bool) (at_work : IsAtWork p program limit begun told steps k unmet) where
   abbrev d : Domain
   d = as_domain p
@@ -85,7 +86,8 @@ module _ (p : PlainDomain) (laws : domain.IsLawful p) (program : ProgramView) (g
         record { name = x; stopped = stopped; fits = w.logged.fits; met = met; clean = are_clean })
 
     -- it stops at an entry
-    pub stopped_entry : (x : Name PredKey Abs) → IsIn x g.entries → ((j : ℕ) → IsNamed d k.rows j x → ⊥) → AreOpened d g limit k.rows → HasLog p program begun told steps (IsStoppedAt p program limit)
+    pub stopped_entry : (x : Name PredKey Abs) → IsIn x g.entries → ((j : ℕ) → IsNamed d k.rows j x → ⊥) → AreOpened d g limit k.rows
+        → HasLog p program begun told steps (IsStoppedAt p program limit)
     stopped_entry x inside absent (inl h) = let (j, n) = h x inside in absurd (absent j n)
     stopped_entry x inside absent (inr full) =
         has_less p program begun told steps Works (IsStoppedAt p program limit) at_work steps (omega arith)
@@ -94,8 +96,10 @@ module _ (p : PlainDomain) (laws : domain.IsLawful p) (program : ProgramView) (g
         record { name = x; stopped = stopped; fits = w.logged.fits; met = met; clean = are_clean })
 
 -- work begins with no rows
-pub begins_told : (p : PlainDomain) (program : ProgramView) (limit : ℕ) (begun told : Option (List WorkEntry)) (k : Keeping (as_domain p)) (unmet : ℕ → ℕ → Bool) → told ≡ begun → k.rows ≡ []
-    → ((n m : ℕ) → k.dirty n m ≡ false) → ((n m j : ℕ) → k.calls n m j ≡ false) → ((n m : ℕ) → unmet n m ≡ false) → (steps : ℕ) → steps ≡ 0 → IsAtWork p program limit begun told steps k unmet
+pub begins_told : (p : PlainDomain) (program : ProgramView) (limit : ℕ) (begun told : Option (List WorkEntry)) (k : Keeping (as_domain p))
+    (unmet : ℕ → ℕ → Bool) → told ≡ begun → k.rows ≡ []
+    → ((n m : ℕ) → k.dirty n m ≡ false) → ((n m j : ℕ) → k.calls n m j ≡ false) → ((n m : ℕ) → unmet n m ≡ false) → (steps : ℕ) → steps ≡ 0
+    → IsAtWork p program limit begun told steps k unmet
 begins_told p program limit begun told k unmet same none clean silent free steps zero_is =
     record {
       log = [];

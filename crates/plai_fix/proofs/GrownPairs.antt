@@ -49,9 +49,11 @@ joined_up d g laws q u a (Some b) low fits e other =
     let t : d.join u b ≡ a = cc in
     subst (d.leq q u) t (laws.join_first low fits)
 
-module _ (p : PlainDomain) (laws : domain.IsLawful p) (program : ProgramView) (good : IsWellFormed program) (limit : ℕ) (begun told : Option (List WorkEntry)) (steps : ℕ)
+module _ (p : PlainDomain) (laws : domain.IsLawful p) (program : ProgramView) (good : IsWellFormed program) (limit : ℕ)
+    (begun told : Option (List WorkEntry)) (steps : ℕ)
     (k : Keeping (as_domain p)) (unmet : ℕ → ℕ → Bool) (n i : ℕ) (called : List (Name PredKey Abs)) (answer : Option Abs)
-    (past : IsPastEvaluation p program limit begun told steps k unmet None n i called answer) (kept : KeptRow (as_domain p)) (at : item k.rows n ≡ Some kept) where
+    (past : IsPastEvaluation p program limit begun told steps k unmet None n i called answer) (kept : KeptRow (as_domain p))
+    (at : item k.rows n ≡ Some kept) where
   abbrev d : Domain
   d = as_domain p
 
@@ -93,24 +95,32 @@ module _ (p : PlainDomain) (laws : domain.IsLawful p) (program : ProgramView) (g
   -- the answers that are joined are values of one arity
   pub alike_told : (a b : Abs) → kept.answer ≡ Some a → answer ≡ Some b → AreAlike p a b
   alike_told a b e f =
-      let fit : UpTo (d.leq r.name.pred) (Some b) (Some b) = subst (λ (o : Option Abs). UpTo (d.leq r.name.pred) o o) f past.is.fits in (r.name.pred.arity, value_had a e, fit)
+      let fit : UpTo (d.leq r.name.pred) (Some b) (Some b) = subst (λ (o : Option Abs). UpTo (d.leq r.name.pred) o o) f past.is.fits in
+      (r.name.pred.arity, value_had a e, fit)
 
   -- no growth is due
   pub settles_told : join_of d kept.answer answer ≡ kept.answer → IsPastGrowth p program limit begun told steps k unmet None n i called
   settles_told same =
-      has_less p program begun told steps (λ log. HasEvaluated d g (as_limits p) limit log k None unmet n i called answer) (λ log. IsWaiting d g (as_limits p) limit log k None unmet n i called) past
-      steps (omega arith) (λ has. settles d g lawful (as_limits p) limit past.log k None unmet n i called answer past.is (ap (λ (o : Option Abs). join_of d o answer) present ∙ same ∙ sym present))
+      has_less p program begun told steps (λ log. HasEvaluated d g (as_limits p) limit log k None unmet n i called answer)
+      (λ log. IsWaiting d g (as_limits p) limit log k None unmet n i called) past
+      steps (omega arith) (λ has. settles d g lawful (as_limits p) limit past.log k None unmet n i called answer past.is
+      (ap (λ (o : Option Abs). join_of d o answer) present ∙ same ∙ sym present))
 
-  module _ (new : Keeping d) (a : Abs) (is : ◌≡◌ {A = Option Abs} (Some a) (join_of d kept.answer answer)) (other : ◌≡◌ {A = Option Abs} (Some a) kept.answer → ⊥) (answers : Answers d k new n (Some a)) where
+  module _ (new : Keeping d) (a : Abs) (is : ◌≡◌ {A = Option Abs} (Some a) (join_of d kept.answer answer))
+      (other : ◌≡◌ {A = Option Abs} (Some a) kept.answer → ⊥) (answers : Answers d k new n (Some a)) where
     waits : IsWaiting d g (as_limits p) limit (past.log ++ Grew r.name (Some a) ∷ []) new None unmet n i called
     waits =
-        grows d g lawful (as_limits p) limit past.log k new unmet n i called answer (Some a) past.is (is ∙ ap (λ (o : Option Abs). join_of d o answer) (sym present)) (λ e. other (e ∙ present)) answers
+        grows d g lawful (as_limits p) limit past.log k new unmet n i called answer (Some a) past.is
+        (is ∙ ap (λ (o : Option Abs). join_of d o answer) (sym present)) (λ e. other (e ∙ present)) answers
 
     -- the growth that is due
-    pub grows_told : (new_told : Option (List WorkEntry)) → new_told ≡ noted (entries.Grew (row_name kept.name) a) told → IsPastGrowth p program limit begun new_told steps new unmet None n i called
+    pub grows_told : (new_told : Option (List WorkEntry)) → new_told ≡ noted (entries.Grew (row_name kept.name) a) told
+        → IsPastGrowth p program limit begun new_told steps new unmet None n i called
     grows_told new_told e =
-        has_more p program begun told steps (λ log. HasEvaluated d g (as_limits p) limit log k None unmet n i called answer) (λ log. IsWaiting d g (as_limits p) limit log new None unmet n i called) past
-        new_told steps (Grew r.name (Some a)) (entries.Grew (row_name r.name) a) refl (e ∙ ap (λ (x : Name PredKey Abs). noted (entries.Grew (row_name x) a) told) same_row.0) (omega arith) waits
+        has_more p program begun told steps (λ log. HasEvaluated d g (as_limits p) limit log k None unmet n i called answer)
+        (λ log. IsWaiting d g (as_limits p) limit log new None unmet n i called) past
+        new_told steps (Grew r.name (Some a)) (entries.Grew (row_name r.name) a) refl (e
+        ∙ ap (λ (x : Name PredKey Abs). noted (entries.Grew (row_name x) a) told) same_row.0) (omega arith) waits
 
     after : Keeps d g new None (map (after_growing d r.name (Some a)) rows)
     after = subst (λ (w : Work d). Keeps d g new None w.rows) (after_push d g limit (no_work d) past.log (Grew r.name (Some a))) waits.working.logged.keeps
@@ -127,13 +137,16 @@ module _ (p : PlainDomain) (laws : domain.IsLawful p) (program : ProgramView) (g
     later_shifts u had =
         let mine : r.answer ≡ Some u = sym same_row.1 ∙ had in
         let up : d.leq r.name.pred u a =
-        joined_up d g lawful r.name.pred u a answer (value_had u had) past.is.fits (is ∙ ap (λ (o : Option Abs). join_of d o answer) had) (λ e. other (e ∙ sym had)) in (
+        joined_up d g lawful r.name.pred u a answer (value_had u had) past.is.fits (is ∙ ap (λ (o : Option Abs). join_of d o answer) had)
+        (λ e. other (e ∙ sym had)) in (
           later_room d g lawful k new None None rows keeps n r past.is.pair.at live a after limit u mine,
-          later_ranks d g lawful k new None None rows keeps n r past.is.pair.at live a after (λ pred. p.rank) (λ q x y h ne. laws.ranked.falls q.arity x y h ne) u mine up
+          later_ranks d g lawful k new None None rows keeps n r past.is.pair.at live a after (λ pred. p.rank)
+              (λ q x y h ne. laws.ranked.falls q.arity x y h ne) u mine up
               (λ e. other (ap Some (sym e) ∙ sym had)),
         )
 
-    pub grown_shifts : {A : Type 0} (f : A → Abs) (o : Option A) (first : Bool) → is_some o ≡ not first → kept.answer ≡ option_map f o → Shifts d g limit (λ pred. p.rank) k new (growth_of first)
+    pub grown_shifts : {A : Type 0} (f : A → Abs) (o : Option A) (first : Bool) → is_some o ≡ not first → kept.answer ≡ option_map f o
+        → Shifts d g limit (λ pred. p.rank) k new (growth_of first)
     grown_shifts f None true e h = first_shifts h
     grown_shifts f None false e h = cc
     grown_shifts f (Some b) true e h = cc

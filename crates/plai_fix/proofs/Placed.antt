@@ -32,16 +32,20 @@ use Rattle.plai_fix.proofs.LookedUp.{any_push}
 use Rattle.plai_fix.proofs.Telling.{has_more, has_less}
 
 -- a new row has no answer yet
-sum_push : (d : Domain) (f : ℕ → KeptRow d → ℕ) (kept : List (KeptRow d)) (r : KeptRow d) → kept_sum d f (kept ++ r ∷ []) ≡ kept_sum d f kept + f (length kept) r
+sum_push : (d : Domain) (f : ℕ → KeptRow d → ℕ) (kept : List (KeptRow d)) (r : KeptRow d)
+    → kept_sum d f (kept ++ r ∷ []) ≡ kept_sum d f kept + f (length kept) r
 sum_push d f [] r = omega arith
 sum_push d f (q ∷ kept) r =
-    let k : kept_sum d (λ j. f (suc j)) (kept ++ r ∷ []) ≡ kept_sum d (λ j. f (suc j)) kept + f (suc (length kept)) r = sum_push d (λ j. f (suc j)) kept r in omega arith
+    let k : kept_sum d (λ j. f (suc j)) (kept ++ r ∷ []) ≡ kept_sum d (λ j. f (suc j)) kept + f (suc (length kept)) r = sum_push d
+    (λ j. f (suc j)) kept r in omega arith
 
-pub makes_room : (d : Domain) (g : Program d) (limit : ℕ) (k new : Keeping d) (x : NameOf d) → Makes d g k new x → kept_live d k.rows < limit → kept_room d limit new.rows < kept_room d limit k.rows
+pub makes_room : (d : Domain) (g : Program d) (limit : ℕ) (k new : Keeping d) (x : NameOf d) → Makes d g k new x → kept_live d k.rows < limit
+    → kept_room d limit new.rows < kept_room d limit k.rows
 makes_room d g limit k new x makes room =
     let r : KeptRow d = record { name = x; answer = None; live = true } in
     let a : kept_live d new.rows ≡ kept_live d k.rows + 1 = ap (kept_live d) makes.rows ∙ count_push (λ (z : KeptRow d). z.live) k.rows r in
-    let b : kept_nones d new.rows ≡ kept_nones d k.rows + 1 = ap (kept_nones d) makes.rows ∙ sum_push d (λ j z. cond z.live (one_at_none z.answer) 0) k.rows r in omega arith
+    let b : kept_nones d new.rows ≡ kept_nones d k.rows + 1 = ap (kept_nones d) makes.rows
+    ∙ sum_push d (λ j z. cond z.live (one_at_none z.answer) 0) k.rows r in omega arith
 
 module _ (d : Domain) (limit : ℕ) where
   pub adds_none : (k : Keeping d) → Adds d limit k k
@@ -56,13 +60,15 @@ module _ (d : Domain) (limit : ℕ) where
         dirty = λ e n m. let l = a.longer in let o = b.longer in b.dirty (omega arith) n m ∙ a.dirty (omega arith) n m;
       }
     where
-      last : kept_room d limit mid.rows ≤ kept_room d limit k.rows → length k.rows < length new.rows → (t : Bool) → nat_eq (length new.rows) (length mid.rows) ≡ t
+      last : kept_room d limit mid.rows ≤ kept_room d limit k.rows → length k.rows < length new.rows → (t : Bool)
+          → nat_eq (length new.rows) (length mid.rows) ≡ t
           → (length k.rows < length mid.rows → kept_room d limit mid.rows < kept_room d limit k.rows) → kept_room d limit new.rows < kept_room d limit k.rows
       last l h true e f =
           let s : length new.rows ≡ length mid.rows = eqb-true (length new.rows) (length mid.rows) e in
           let t = ap (kept_room d limit) (b.rows s) in let u = f (omega arith) in omega arith
       last l h false e f =
-          let ne : length new.rows ≡ length mid.rows → ⊥ = λ s. let t : nat_eq (length new.rows) (length mid.rows) ≡ true = eq-eqb (length new.rows) (length mid.rows) s in let u : true ≡ false = sym t ∙ e in cc in
+          let ne : length new.rows ≡ length mid.rows → ⊥ = λ s. let t : nat_eq (length new.rows) (length mid.rows) ≡ true = eq-eqb (length new.rows)
+          (length mid.rows) s in let u : true ≡ false = sym t ∙ e in cc in
           let m = b.longer in
           let u = b.room (strict (length mid.rows) (length new.rows) m (λ s. ne (sym s))) in omega arith
         where
@@ -74,9 +80,11 @@ module _ (d : Domain) (limit : ℕ) where
           let s : length mid.rows ≡ length k.rows = eqb-true (length mid.rows) (length k.rows) e in
           let t = ap (kept_room d limit) (a.rows s) in last (omega arith) h (nat_eq (length new.rows) (length mid.rows)) refl (λ l. a.room l)
       at h false e =
-          let ne : length mid.rows ≡ length k.rows → ⊥ = λ s. let t : nat_eq (length mid.rows) (length k.rows) ≡ true = eq-eqb (length mid.rows) (length k.rows) s in let u : true ≡ false = sym t ∙ e in cc in
+          let ne : length mid.rows ≡ length k.rows → ⊥ = λ s. let t : nat_eq (length mid.rows) (length k.rows) ≡ true = eq-eqb (length mid.rows)
+          (length k.rows) s in let u : true ≡ false = sym t ∙ e in cc in
           let m = a.longer in
-          let u = a.room (strict (length k.rows) (length mid.rows) m (λ s. ne (sym s))) in last (omega arith) h (nat_eq (length new.rows) (length mid.rows)) refl (λ l. a.room l)
+          let u = a.room (strict (length k.rows) (length mid.rows) m (λ s. ne (sym s))) in last (omega arith) h
+          (nat_eq (length new.rows) (length mid.rows)) refl (λ l. a.room l)
         where
           strict : (x y : ℕ) → x ≤ y → (x ≡ y → ⊥) → x < y
           strict x y l n = omega (arith, n)
@@ -90,13 +98,15 @@ module _ (p : PlainDomain) (program : ProgramView) (limit : ℕ) (y : Name PredK
   g = as_program p program
 
   -- the row that is made
-  pub placed_made : (new : Keeping d) (later : Option (List WorkEntry)) (row : ℕ) → ((j : ℕ) → IsNamed d k.rows j y → ⊥) → kept_live d k.rows < limit → Makes d g k new y → row ≡ length k.rows
+  pub placed_made : (new : Keeping d) (later : Option (List WorkEntry)) (row : ℕ) → ((j : ℕ) → IsNamed d k.rows j y → ⊥) → kept_live d k.rows < limit
+      → Makes d g k new y → row ≡ length k.rows
       → later ≡ noted (entries.Made (row_name y)) told → Places p program limit y k told new later (Some row)
   placed_made new later row absent room makes e f =
       subst (λ o. Places p program limit y k told new o (Some row)) (sym f)
       (subst (λ (j : ℕ). Places p program limit y k told new (noted (entries.Made (row_name y)) told) (Some j)) (sym e) (IsMade new absent room makes))
 
-  pub places_rows : (new : Keeping d) (later : Option (List WorkEntry)) (row : Option ℕ) → Places p program limit y k told new later row → AreOfRows k → AreOfRows new
+  pub places_rows : (new : Keeping d) (later : Option (List WorkEntry)) (row : Option ℕ) → Places p program limit y k told new later row → AreOfRows k
+      → AreOfRows new
   places_rows new later row (IsThere j named) of_rows = of_rows
   places_rows new later row (IsMade made absent room makes) of_rows = λ n m e. at n m e (nat_eq n (length k.rows)) refl
     where
@@ -106,7 +116,8 @@ module _ (p : PlainDomain) (program : ProgramView) (limit : ℕ) (y : Name PredK
       at : (n m : ℕ) → made.dirty n m ≡ true → (t : Bool) → nat_eq n (length k.rows) ≡ t → n < length made.rows
       at n m e true f = let s : n ≡ length k.rows = eqb-true n (length k.rows) f in let l = more in omega arith
       at n m e false f =
-          let ne : n ≡ length k.rows → ⊥ = λ s. let t : nat_eq n (length k.rows) ≡ true = eq-eqb n (length k.rows) s in let u : true ≡ false = sym t ∙ f in cc in
+          let ne : n ≡ length k.rows → ⊥ = λ s. let t : nat_eq n (length k.rows) ≡ true = eq-eqb n (length k.rows) s in let u : true ≡ false = sym t
+          ∙ f in cc in
           let l = of_rows n m (sym (makes.others n m ne) ∙ e) in let o = more in omega arith
   places_rows new later row (IsLacking absent full) of_rows = of_rows
 
@@ -122,13 +133,15 @@ module _ (p : PlainDomain) (program : ProgramView) (limit : ℕ) (y : Name PredK
       }
   places_adds new later row (IsLacking absent full) = adds_none d limit k
 
-  pub places_extends : (new : Keeping d) (later : Option (List WorkEntry)) (row : Option ℕ) → Places p program limit y k told new later row → Extends d k.rows new.rows
+  pub places_extends : (new : Keeping d) (later : Option (List WorkEntry)) (row : Option ℕ) → Places p program limit y k told new later row
+      → Extends d k.rows new.rows
   places_extends new later row (IsThere j named) = extends_same d k.rows k.rows refl
   places_extends new later row (IsMade made absent room makes) = extends_push d k.rows made.rows (record { name = y; answer = None; live = true }) makes.rows
   places_extends new later row (IsLacking absent full) = extends_same d k.rows k.rows refl
 
   -- the name is one that a pair called
-  module _ (laws : domain.IsLawful p) (good : IsWellFormed program) (begun : Option (List WorkEntry)) (steps : ℕ) (unmet : ℕ → ℕ → Bool) (n i : ℕ) (called : List (Name PredKey Abs)) where
+  module _ (laws : domain.IsLawful p) (good : IsWellFormed program) (begun : Option (List WorkEntry)) (steps : ℕ) (unmet : ℕ → ℕ → Bool) (n i : ℕ)
+      (called : List (Name PredKey Abs)) where
     lawful : IsLawful d g
     lawful = lawful_at p laws program good
 
@@ -138,11 +151,14 @@ module _ (p : PlainDomain) (program : ProgramView) (limit : ℕ) (y : Name PredK
     module _ (rows : List ℕ) (left : List (Name PredKey Abs)) (full : Bool)
         (placing : IsPlacing p program limit begun told steps k unmet n i called (λ j. list_any (nat_eq j) rows) (left ++ y ∷ []) full) where
       made_waits : (new : Keeping d) → ((j : ℕ) → IsNamed d k.rows j y → ⊥) → kept_live d k.rows < limit → Makes d g k new y
-          → HasLog p program begun (noted (entries.Made (row_name y)) told) steps (λ log. IsWaiting d g (as_limits p) limit log new (Some (n, i)) unmet n i called)
+          → HasLog p program begun (noted (entries.Made (row_name y)) told) steps (λ log. IsWaiting d g (as_limits p) limit log new
+          (Some (n, i)) unmet n i called)
       made_waits new absent room makes =
-          has_more p program begun told steps (λ log. IsWaiting d g (as_limits p) limit log k (Some (n, i)) unmet n i called) (λ log. IsWaiting d g (as_limits p) limit log new (Some (n, i)) unmet n i called)
+          has_more p program begun told steps (λ log. IsWaiting d g (as_limits p) limit log k (Some (n, i)) unmet n i called)
+          (λ log. IsWaiting d g (as_limits p) limit log new (Some (n, i)) unmet n i called)
           placing.waiting (noted (entries.Made (row_name y)) told) steps (Made y) (entries.Made (row_name y)) refl refl (omega arith)
-          (makes_called d g lawful (as_limits p) limit placing.waiting.log k new unmet n i called placing.waiting.is y (placing.links.inside y (in_last left y)) absent room makes)
+          (makes_called d g lawful (as_limits p) limit placing.waiting.log k new unmet n i called placing.waiting.is y
+          (placing.links.inside y (in_last left y)) absent room makes)
 
       not_full : kept_live d k.rows < limit → full ≡ true → ⊥
       not_full room t = let h = placing.no_room t in absurd (omega arith)
@@ -152,7 +168,8 @@ module _ (p : PlainDomain) (program : ProgramView) (limit : ℕ) (y : Name PredK
       is_false false h = refl
 
       -- it has a row then
-      pub placed_row : (new : Keeping d) (later : Option (List WorkEntry)) (j : ℕ) (found : List ℕ) → Places p program limit y k told new later (Some j) → found ≡ rows ++ j ∷ []
+      pub placed_row : (new : Keeping d) (later : Option (List WorkEntry)) (j : ℕ) (found : List ℕ) → Places p program limit y k told new later (Some j)
+          → found ≡ rows ++ j ∷ []
           → IsPlacing p program limit begun later steps new unmet n i called (λ m. list_any (nat_eq m) found) left full
       placed_row new later j found (IsThere z named) e =
           record {
@@ -166,7 +183,8 @@ module _ (p : PlainDomain) (program : ProgramView) (limit : ℕ) (y : Name PredK
           record {
             waiting = made_waits made absent room makes;
             links = subst (Links d made.rows called (λ m. list_any (nat_eq m) found) left) (sym free)
-                (links_made d k.rows made.rows called left (λ m. list_any (nat_eq m) rows) (λ m. list_any (nat_eq m) found) (record { name = y; answer = None; live = true })
+                (links_made d k.rows made.rows called left (λ m. list_any (nat_eq m) rows) (λ m. list_any (nat_eq m) found)
+                (record { name = y; answer = None; live = true })
                 (subst (Links d k.rows called (λ m. list_any (nat_eq m) rows) (left ++ y ∷ [])) free placing.links) makes.rows
                 (λ m. ap (list_any (nat_eq m)) e ∙ more_rows rows (length k.rows) m));
             no_room = λ t. absurd (not_full room t);
@@ -185,13 +203,15 @@ module _ (p : PlainDomain) (program : ProgramView) (limit : ℕ) (y : Name PredK
       -- what was told is legal
       pub placing_legal : HasLog p program begun told 0 (IsLegalLog d g limit (no_work d))
       placing_legal =
-          has_less p program begun told steps (λ log. IsWaiting d g (as_limits p) limit log k (Some (n, i)) unmet n i called) (IsLegalLog d g limit (no_work d)) placing.waiting 0 (omega arith)
+          has_less p program begun told steps (λ log. IsWaiting d g (as_limits p) limit log k (Some (n, i)) unmet n i called)
+          (IsLegalLog d g limit (no_work d)) placing.waiting 0 (omega arith)
           (λ w. w.working.logged.legal)
 
       pub placed_legal : (new : Keeping d) (later : Option (List WorkEntry)) (row : Option ℕ) → Places p program limit y k told new later row
           → HasLog p program begun later 0 (IsLegalLog d g limit (no_work d))
       placed_legal new later row (IsThere z named) = placing_legal
       placed_legal new later row (IsMade made absent room makes) =
-          has_less p program begun (noted (entries.Made (row_name y)) told) steps (λ log. IsWaiting d g (as_limits p) limit log made (Some (n, i)) unmet n i called) (IsLegalLog d g limit (no_work d))
+          has_less p program begun (noted (entries.Made (row_name y)) told) steps (λ log. IsWaiting d g (as_limits p) limit log made
+          (Some (n, i)) unmet n i called) (IsLegalLog d g limit (no_work d))
           (made_waits made absent room makes) 0 (omega arith) (λ w. w.working.logged.legal)
       placed_legal new later row (IsLacking absent met) = placing_legal

@@ -14,7 +14,8 @@ pub not_full : (live limit : ℕ) → (limit ≤ live → ⊥) → live < limit
 not_full live limit h = omega (arith, h)
 
 module _ (V : Type 0) (value_of : V → Abs) (p : PlainDomain) where
-  pub named_at : (rows : List (TableRow V)) (n : ℕ) (name : Key V) → slice_get (names_of rows) n ≡ Some name → IsNamed (as_domain p) (kept_rows value_of p rows) n (key_name value_of name)
+  pub named_at : (rows : List (TableRow V)) (n : ℕ) (name : Key V) → slice_get (names_of rows) n ≡ Some name
+      → IsNamed (as_domain p) (kept_rows value_of p rows) n (key_name value_of name)
   named_at [] n name e = cc
   named_at (r ∷ rows) zero name e = let s : r.name ≡ name = cc in ap (key_name value_of) s
   named_at (r ∷ rows) (suc n) name e = named_at rows n name e
@@ -34,7 +35,8 @@ module _ (V : Type 0) (value_of : V → Abs) (p : PlainDomain) where
   is_there (r ∷ rows) zero h = omega arith
   is_there (r ∷ rows) (suc n) h = let l : n < length rows = is_there rows n h in omega arith
 
-  pub kept_at : (rows : List (TableRow V)) (n : ℕ) (r : TableRow V) → slice_get rows n ≡ Some r → item (kept_rows value_of p rows) n ≡ Some (kept_row value_of p r)
+  pub kept_at : (rows : List (TableRow V)) (n : ℕ) (r : TableRow V) → slice_get rows n ≡ Some r
+      → item (kept_rows value_of p rows) n ≡ Some (kept_row value_of p r)
   kept_at [] n r e = cc
   kept_at (q ∷ rows) zero r e = let s : q ≡ r = cc in ap (λ (z : TableRow V). Some (kept_row value_of p z)) s
   kept_at (q ∷ rows) (suc n) r e = kept_at rows n r e
@@ -52,7 +54,8 @@ module _ (V : Type 0) (value_of : V → Abs) (p : PlainDomain) where
   kept_length rows = length_map (kept_row value_of p) rows
 
   -- a row that is not there yet has no dirty pair
-  pub fresh_row : (rows : List (TableRow V)) (dirty : ℕ → ℕ → Bool) → ((n m : ℕ) → dirty n m ≡ true → n < length (kept_rows value_of p rows)) → (m : ℕ) → dirty (length rows) m ≡ false
+  pub fresh_row : (rows : List (TableRow V)) (dirty : ℕ → ℕ → Bool) → ((n m : ℕ) → dirty n m ≡ true → n < length (kept_rows value_of p rows)) → (m : ℕ)
+      → dirty (length rows) m ≡ false
   fresh_row rows dirty of_rows m = at (dirty (length rows) m) refl
     where
       at : (b : Bool) → dirty (length rows) m ≡ b → b ≡ false

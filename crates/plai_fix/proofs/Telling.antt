@@ -12,7 +12,8 @@ use Rattle.plai_fix.specs.Told.{entry_told, log_told, told_after, entry_cost, lo
 module _ (p : PlainDomain) where
   log_push : (log : List (LogEntry (as_domain p))) (e : LogEntry (as_domain p)) → log_told p (log ++ e ∷ []) ≡ log_told p log ++ entry_told p e
   log_push [] e = append-nil (entry_told p e)
-  log_push (b ∷ log) e = ap (λ (rest : List WorkEntry). entry_told p b ++ rest) (log_push log e) ∙ sym (append_assoc (entry_told p b) (log_told p log) (entry_told p e))
+  log_push (b ∷ log) e = ap (λ (rest : List WorkEntry). entry_told p b ++ rest) (log_push log e)
+      ∙ sym (append_assoc (entry_told p b) (log_told p log) (entry_told p e))
 
   told_push : (begun : Option (List WorkEntry)) (log : List (LogEntry (as_domain p))) (e : LogEntry (as_domain p)) (w : WorkEntry) → entry_told p e ≡ w ∷ []
       → told_after p begun (log ++ e ∷ []) ≡ noted w (told_after p begun log)
@@ -21,11 +22,14 @@ module _ (p : PlainDomain) where
       ap (λ (rest : List WorkEntry). Some (begun ++ rest)) (log_push log e ∙ ap (λ (rest : List WorkEntry). log_told p log ++ rest) is)
       ∙ ap Some (sym (append_assoc begun (log_told p log) (w ∷ [])))
 
-  cost_push : (program : ProgramView) (log : List (LogEntry (as_domain p))) (e : LogEntry (as_domain p)) → log_cost p program (log ++ e ∷ []) ≡ log_cost p program log + entry_cost p program e
+  cost_push : (program : ProgramView) (log : List (LogEntry (as_domain p))) (e : LogEntry (as_domain p))
+      → log_cost p program (log ++ e ∷ []) ≡ log_cost p program log + entry_cost p program e
   cost_push program [] e = omega arith
-  cost_push program (b ∷ log) e = let k : log_cost p program (log ++ e ∷ []) ≡ log_cost p program log + entry_cost p program e = cost_push program log e in omega arith
+  cost_push program (b ∷ log) e = let k : log_cost p program (log ++ e ∷ []) ≡ log_cost p program log + entry_cost p program e = cost_push program log e in
+      omega arith
 
-  module _ (program : ProgramView) (begun told : Option (List WorkEntry)) (steps : ℕ) (Is Next : List (LogEntry (as_domain p)) → Type 0) (has : HasLog p program begun told steps Is) where
+  module _ (program : ProgramView) (begun told : Option (List WorkEntry)) (steps : ℕ) (Is Next : List (LogEntry (as_domain p)) → Type 0)
+      (has : HasLog p program begun told steps Is) where
     -- one more entry is noted
     pub has_more : (new : Option (List WorkEntry)) (later : ℕ) (e : LogEntry (as_domain p)) (w : WorkEntry) → entry_told p e ≡ w ∷ [] → new ≡ noted w told
         → later ≤ steps + entry_cost p program e → Next (has.log ++ e ∷ []) → HasLog p program begun new later Next

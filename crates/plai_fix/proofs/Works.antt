@@ -25,7 +25,8 @@ use Rattle.plai_fix.proofs.Pairs.{links}
 use Rattle.plai_fix.proofs.Telling.{has_less}
 
 -- the rows that were found are those of called names, and the others are missing
-pub looks_links : (d : Domain) (kept : List (KeptRow d)) (called : List (Name d.Pred d.Value)) (rows : List ℕ) (missing : List (Name d.Pred d.Value)) → Looks d kept called rows missing
+pub looks_links : (d : Domain) (kept : List (KeptRow d)) (called : List (Name d.Pred d.Value)) (rows : List ℕ) (missing : List (Name d.Pred d.Value))
+    → Looks d kept called rows missing
     → Links d kept called (λ j. list_any (nat_eq j) rows) missing false
 looks_links d kept called rows missing looks =
     record {
@@ -41,10 +42,12 @@ looks_links d kept called rows missing looks =
     at y (inr h) = inr (inl h.0)
 
 -- dirty pairs are of rows
-pub keeps_of_rows : (d : Domain) (g : Program d) (k : Keeping d) (open_pair : Option (ℕ × ℕ)) (rows : List (WorkRow d)) → Keeps d g k open_pair rows → AreOfRows k
+pub keeps_of_rows : (d : Domain) (g : Program d) (k : Keeping d) (open_pair : Option (ℕ × ℕ)) (rows : List (WorkRow d)) → Keeps d g k open_pair rows
+    → AreOfRows k
 keeps_of_rows d g k open_pair rows keeps = λ n m e. item_within k.rows n (keeps.dirty_rows n m e)
 
-module _ (p : PlainDomain) (laws : domain.IsLawful p) (program : ProgramView) (good : IsWellFormed program) (limit : ℕ) (begun told : Option (List WorkEntry)) (steps : ℕ)
+module _ (p : PlainDomain) (laws : domain.IsLawful p) (program : ProgramView) (good : IsWellFormed program) (limit : ℕ)
+    (begun told : Option (List WorkEntry)) (steps : ℕ)
     (k : Keeping (as_domain p)) (unmet : ℕ → ℕ → Bool) (n i : ℕ) (called : List (Name PredKey Abs)) where
   abbrev d : Domain
   d = as_domain p
@@ -56,13 +59,17 @@ module _ (p : PlainDomain) (laws : domain.IsLawful p) (program : ProgramView) (g
   lawful = lawful_at p laws program good
 
   -- the calls of the pair are set
-  pub links_told : (answer : Option Abs) → IsPastEvaluation p program limit begun told steps k unmet (Some (n, i)) n i called answer → (new : Keeping d) (rows : List ℕ) (missing : List (Name PredKey Abs))
-      → Looks d k.rows called rows missing → SetsCalls d k new n i (λ j. list_any (nat_eq j) rows) → IsPastEvaluation p program limit begun told steps new unmet None n i called answer
+  pub links_told : (answer : Option Abs) → IsPastEvaluation p program limit begun told steps k unmet (Some (n, i)) n i called answer
+      → (new : Keeping d) (rows : List ℕ) (missing : List (Name PredKey Abs))
+      → Looks d k.rows called rows missing → SetsCalls d k new n i (λ j. list_any (nat_eq j) rows)
+      → IsPastEvaluation p program limit begun told steps new unmet None n i called answer
   links_told answer past new rows missing looks set =
-      has_less p program begun told steps (λ log. HasEvaluated d g (as_limits p) limit log k (Some (n, i)) unmet n i called answer) (λ log. HasEvaluated d g (as_limits p) limit log new None unmet n i called answer)
+      has_less p program begun told steps (λ log. HasEvaluated d g (as_limits p) limit log k (Some (n, i)) unmet n i called answer)
+      (λ log. HasEvaluated d g (as_limits p) limit log new None unmet n i called answer)
       past steps (omega arith)
       (λ has.
-      links d g lawful (as_limits p) limit past.log k new unmet n i called missing answer (λ j. list_any (nat_eq j) rows) has set (looks_links d k.rows called rows missing looks)
+      links d g lawful (as_limits p) limit past.log k new unmet n i called missing answer (λ j. list_any (nat_eq j) rows) has set
+      (looks_links d k.rows called rows missing looks)
       (λ y inside. (looks_missing d k.rows called rows missing looks y inside).1))
 
   pub grown_of_rows : (open_pair : Option (ℕ × ℕ)) → IsPastGrowth p program limit begun told steps k unmet open_pair n i called → AreOfRows k

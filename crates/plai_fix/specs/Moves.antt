@@ -26,14 +26,16 @@ growth_of false = Grown
 -- all three numbers stay, the ranks fall and the room stays, or the room falls
 abbrev pub Shifts : (d : Domain) → Program d → ℕ → (d.Pred → d.Value → ℕ) → Keeping d → Keeping d → Change → Type 0
 Shifts d g limit rank k new Nothing =
-    (kept_room d limit new.rows ≡ kept_room d limit k.rows) × (kept_ranks d rank new.rows ≡ kept_ranks d rank k.rows) × (kept_dirties d g new ≡ kept_dirties d g k)
+    (kept_room d limit new.rows ≡ kept_room d limit k.rows) × (kept_ranks d rank new.rows ≡ kept_ranks d rank k.rows)
+    × (kept_dirties d g new ≡ kept_dirties d g k)
 Shifts d g limit rank k new Grown = (kept_room d limit new.rows ≡ kept_room d limit k.rows) × (kept_ranks d rank new.rows < kept_ranks d rank k.rows)
 Shifts d g limit rank k new Opened = kept_room d limit new.rows < kept_room d limit k.rows
 
 -- the dirty clauses fall and the others stay, the ranks fall and the room stays, or the room falls
 abbrev pub Moves : (d : Domain) → Program d → ℕ → (d.Pred → d.Value → ℕ) → Keeping d → Keeping d → Change → Type 0
 Moves d g limit rank k new Nothing =
-    (kept_room d limit new.rows ≡ kept_room d limit k.rows) × (kept_ranks d rank new.rows ≡ kept_ranks d rank k.rows) × (kept_dirties d g new < kept_dirties d g k)
+    (kept_room d limit new.rows ≡ kept_room d limit k.rows) × (kept_ranks d rank new.rows ≡ kept_ranks d rank k.rows)
+    × (kept_dirties d g new < kept_dirties d g k)
 Moves d g limit rank k new Grown = (kept_room d limit new.rows ≡ kept_room d limit k.rows) × (kept_ranks d rank new.rows < kept_ranks d rank k.rows)
 Moves d g limit rank k new Opened = kept_room d limit new.rows < kept_room d limit k.rows
 

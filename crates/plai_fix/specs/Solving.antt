@@ -20,12 +20,14 @@ use Rattle.plai_fix.specs.Pairs.{Links, HasEvaluated, IsWaiting}
 use Rattle.plai_fix.specs.Told.{HasLog}
 
 -- between two steps: the pairs that are marked as unmet called a name that has no row
-abbrev pub IsAtWork : (p : PlainDomain) → ProgramView → ℕ → Option (List WorkEntry) → Option (List WorkEntry) → ℕ → Keeping (as_domain p) → (ℕ → ℕ → Bool) → Type 0
+abbrev pub IsAtWork : (p : PlainDomain) → ProgramView → ℕ → Option (List WorkEntry) → Option (List WorkEntry) → ℕ → Keeping (as_domain p) → (ℕ → ℕ → Bool)
+    → Type 0
 IsAtWork p program limit begun told steps k unmet =
     HasLog p program begun told steps (λ log. IsWorking (as_domain p) (as_program p program) (as_limits p) limit (no_work (as_domain p)) log k None None unmet)
 
 -- behind the evaluation of clause i of row n, which called these names and gave this answer
-abbrev pub IsPastEvaluation : (p : PlainDomain) → ProgramView → ℕ → Option (List WorkEntry) → Option (List WorkEntry) → ℕ → Keeping (as_domain p) → (ℕ → ℕ → Bool)
+abbrev pub IsPastEvaluation : (p : PlainDomain) → ProgramView → ℕ → Option (List WorkEntry) → Option (List WorkEntry) → ℕ → Keeping (as_domain p)
+    → (ℕ → ℕ → Bool)
     → Option (ℕ × ℕ) → ℕ → ℕ → List (Name PredKey Abs) → Option Abs → Type 0
 IsPastEvaluation p program limit begun told steps k unmet open_pair n i called answer =
     HasLog p program begun told steps (λ log. HasEvaluated (as_domain p) (as_program p program) (as_limits p) limit log k open_pair unmet n i called answer)
@@ -50,7 +52,8 @@ AreOfRows k = (n m : ℕ) → k.dirty n m ≡ true → n < length k.rows
 
 -- Names are placed for the pair of row n and clause i: these rows are of the called names, the others are still left or have
 -- no row, where the limit is met.
-pub record IsPlacing (p : PlainDomain) (program : ProgramView) (limit : ℕ) (begun told : Option (List WorkEntry)) (steps : ℕ) (k : Keeping (as_domain p)) (unmet : ℕ → ℕ → Bool)
+pub record IsPlacing (p : PlainDomain) (program : ProgramView) (limit : ℕ) (begun told : Option (List WorkEntry)) (steps : ℕ) (k : Keeping (as_domain p))
+    (unmet : ℕ → ℕ → Bool)
     (n i : ℕ) (called : List (Name PredKey Abs)) (rows : ℕ → Bool) (left : List (Name PredKey Abs)) (full : Bool) : Type 0 where
   pub waiting : IsPastGrowth p program limit begun told steps k unmet (Some (n, i)) n i called
   pub links : Links (as_domain p) k.rows called rows left full

@@ -47,7 +47,8 @@ pub record IsStoppedAt (p : PlainDomain) (program : ProgramView) (limit : ℕ) (
 
 -- The log is legal. Behind it the clause of this number, from 1, of the live row is dirty, and its evaluation forms its first
 -- set of too many groups there. So many steps are within the log's cost and that of the clause.
-pub record IsOverBehind (p : PlainDomain) (program : ProgramView) (limit steps : ℕ) (row : RowName) (number literal place : ℕ) (log : List (LogEntry (as_domain p))) : Type 0 where
+pub record IsOverBehind (p : PlainDomain) (program : ProgramView) (limit steps : ℕ) (row : RowName) (number literal place : ℕ)
+    (log : List (LogEntry (as_domain p))) : Type 0 where
   pub legal : IsLegalLog (as_domain p) (as_program p program) limit (no_work (as_domain p)) log
   pub fits : AllFit (as_domain p) (as_program p program) (as_limits p) (no_work (as_domain p)) log
   pub name : Name PredKey Abs
@@ -59,7 +60,8 @@ pub record IsOverBehind (p : PlainDomain) (program : ProgramView) (limit steps :
   pub dirty : under.dirty (number - 1) ≡ true
   pub clause : Clause
   pub is_clause : clause_at (as_domain p) (as_program p program) name.pred number ≡ Some clause
-  pub over : (evaluation p (λ x. present_source (as_domain p) (after_all (as_domain p) (as_program p program) (no_work (as_domain p)) log).rows x.pred x.call) clause name.call).over
+  pub over : (evaluation p (λ x. present_source (as_domain p) (after_all (as_domain p) (as_program p program)
+      (no_work (as_domain p)) log).rows x.pred x.call) clause name.call).over
       ≡ Some (literal, place)
   pub within_all : steps ≤ log_cost p program log + cost_of clause
 
@@ -68,7 +70,8 @@ abbrev pub Stops : (p : PlainDomain) → ProgramView → ℕ → Option (List Wo
 Stops p program limit begun told steps solve_fail.Memory =
     HasLog p program begun told 0 (λ log. IsLegalLog (as_domain p) (as_program p program) limit (no_work (as_domain p)) log)
 Stops p program limit begun told steps (solve_fail.Rows n) = (n ≡ limit) × HasLog p program begun told steps (IsStoppedAt p program limit)
-Stops p program limit begun told steps (solve_fail.Groups row number literal place) = HasLog p program begun told 0 (IsOverBehind p program limit steps row number literal place)
+Stops p program limit begun told steps (solve_fail.Groups row number literal place) = HasLog p program begun told 0
+    (IsOverBehind p program limit steps row number literal place)
 
 -- the rows that are marked as an entry's are those of these names
 abbrev pub AreMarkedAs : {V : Type 0} → (V → Abs) → List (Name PredKey Abs) → List (TableRow V) → Type 0

@@ -44,7 +44,8 @@ pub record Start : Type 0 where
   pub steps : ℕ
 
 -- There is a log of which this holds. What was told since the start is the log, and so many steps are within its cost.
-pub record HasLog (p : PlainDomain) (program : ProgramView) (begun told : Option (List WorkEntry)) (steps : ℕ) (Is : List (LogEntry (as_domain p)) → Type 0) : Type 0 where
+pub record HasLog (p : PlainDomain) (program : ProgramView) (begun told : Option (List WorkEntry)) (steps : ℕ)
+    (Is : List (LogEntry (as_domain p)) → Type 0) : Type 0 where
   pub log : List (LogEntry (as_domain p))
   pub is : Is log
   pub is_told : told ≡ told_after p begun log

@@ -45,7 +45,8 @@ fn close_pair<D: Domain>(
     requires number { 1 ≤ number }
     ensures closed { OnOk result ((begun told : Option (List WorkEntry)) (cost : ℕ) (called : List (Name PredKey Abs))
         → IsPlacing (D.plain task.now.domain.now) task.now.program.now task.now.limit begun told cost
-        (state_of D.value_of (D.plain task.now.domain.now) table.now.rows arcs.old) (is_dirty unmet.old) row (number - 1) called (λ j. list_any (nat_eq j) rows.now) [] full
+        (state_of D.value_of (D.plain task.now.domain.now) table.now.rows arcs.old) (is_dirty unmet.old) row (number - 1) called
+        (λ j. list_any (nat_eq j) rows.now) [] full
         → IsAtWork (D.plain task.now.domain.now) task.now.program.now task.now.limit begun told cost
         (state_of D.value_of (D.plain task.now.domain.now) table.now.rows arcs.new) (is_dirty unmet.new)) }
     ensures sets { OnOk result (SetsCalls (as_domain (D.plain task.now.domain.now)) (state_of D.value_of (D.plain task.now.domain.now) table.now.rows arcs.old)
@@ -88,8 +89,10 @@ pub(crate) fn place_missing<D: Domain, W: Work>(
         → Links (as_domain (D.plain task.now.domain.now)) (kept_rows D.value_of (D.plain task.now.domain.now) table.old.rows) called
         (λ j. list_any (nat_eq j) rows.items) (map (key_name D.value_of) missing.items) false
         → HasLog (D.plain task.now.domain.now) task.now.program.now begun (W.entries work.new) 0
-        (IsLegalLog (as_domain (D.plain task.now.domain.now)) (as_program (D.plain task.now.domain.now) task.now.program.now) task.now.limit (no_work (as_domain (D.plain task.now.domain.now))))) }
-    ensures shifts { IfOk result (Shifts (as_domain (D.plain task.now.domain.now)) (as_program (D.plain task.now.domain.now) task.now.program.now) task.now.limit
+        (IsLegalLog (as_domain (D.plain task.now.domain.now)) (as_program (D.plain task.now.domain.now) task.now.program.now) task.now.limit
+        (no_work (as_domain (D.plain task.now.domain.now))))) }
+    ensures shifts { IfOk result (Shifts (as_domain (D.plain task.now.domain.now))
+        (as_program (D.plain task.now.domain.now) task.now.program.now) task.now.limit
         (λ pred. (D.plain task.now.domain.now).rank) (state_of D.value_of (D.plain task.now.domain.now) table.old.rows arcs.old)
         (state_of D.value_of (D.plain task.now.domain.now) table.new.rows arcs.new)) }
     ensures extends { OnOk result (Extends (as_domain (D.plain task.now.domain.now)) (kept_rows D.value_of (D.plain task.now.domain.now) table.old.rows)

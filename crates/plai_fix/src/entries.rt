@@ -54,13 +54,18 @@ pub(crate) fn place_entries<D: Domain, W: Work>(
     requires keys { map (key_name D.value_of) keys.items ≡ (as_program (D.plain task.now.domain.now) task.now.program.now).entries }
     requires of_rows { AreOfRows (state_of D.value_of (D.plain task.now.domain.now) table.old.rows arcs.old) }
     ensures at_work { OnOk result ((begun : Option (List WorkEntry)) (cost : ℕ) (unmet : ℕ → ℕ → Bool)
-        → IsAtWork (D.plain task.now.domain.now) task.now.program.now task.now.limit begun (W.entries work.old) cost (state_of D.value_of (D.plain task.now.domain.now) table.old.rows arcs.old) unmet
-        → IsAtWork (D.plain task.now.domain.now) task.now.program.now task.now.limit begun (W.entries work.new) cost (state_of D.value_of (D.plain task.now.domain.now) table.new.rows arcs.new) unmet) }
+        → IsAtWork (D.plain task.now.domain.now) task.now.program.now task.now.limit begun (W.entries work.old) cost
+        (state_of D.value_of (D.plain task.now.domain.now) table.old.rows arcs.old) unmet
+        → IsAtWork (D.plain task.now.domain.now) task.now.program.now task.now.limit begun (W.entries work.new) cost
+        (state_of D.value_of (D.plain task.now.domain.now) table.new.rows arcs.new) unmet) }
     ensures told { OnErr result ((begun : Option (List WorkEntry)) (cost : ℕ) (unmet : ℕ → ℕ → Bool)
-        → IsAtWork (D.plain task.now.domain.now) task.now.program.now task.now.limit begun (W.entries work.old) cost (state_of D.value_of (D.plain task.now.domain.now) table.old.rows arcs.old) unmet
+        → IsAtWork (D.plain task.now.domain.now) task.now.program.now task.now.limit begun (W.entries work.old) cost
+        (state_of D.value_of (D.plain task.now.domain.now) table.old.rows arcs.old) unmet
         → HasLog (D.plain task.now.domain.now) task.now.program.now begun (W.entries work.new) 0
-        (IsLegalLog (as_domain (D.plain task.now.domain.now)) (as_program (D.plain task.now.domain.now) task.now.program.now) task.now.limit (no_work (as_domain (D.plain task.now.domain.now))))) }
-    ensures opened { OnOk result (AreOpened (as_domain (D.plain task.now.domain.now)) (as_program (D.plain task.now.domain.now) task.now.program.now) task.now.limit (kept_rows D.value_of (D.plain task.now.domain.now) table.new.rows)) }
+        (IsLegalLog (as_domain (D.plain task.now.domain.now)) (as_program (D.plain task.now.domain.now) task.now.program.now) task.now.limit
+        (no_work (as_domain (D.plain task.now.domain.now))))) }
+    ensures opened { OnOk result (AreOpened (as_domain (D.plain task.now.domain.now))
+        (as_program (D.plain task.now.domain.now) task.now.program.now) task.now.limit (kept_rows D.value_of (D.plain task.now.domain.now) table.new.rows)) }
     ensures queued { IsQueued (is_dirty arcs.old) (heap_items queue.old) → OnOk result (IsQueued (is_dirty arcs.new) (heap_items queue.new)) }
 {
     let mut keys = keys;
@@ -87,8 +92,10 @@ fn mark_entry<D: Domain>(_domain: &D, table: &mut Table<D::Value>, key: &Key<D::
     ensures same { kept_rows D.value_of (D.plain _domain.now) table.new.rows ≡ kept_rows D.value_of (D.plain _domain.now) table.old.rows }
     ensures marked { (names : List (Name PredKey Abs)) → AreMarkedAs D.value_of names table.old.rows
         → AreMarkedAs D.value_of (names ++ key_name D.value_of key.now ∷ []) table.new.rows }
-    ensures found { result ≡ true → (j : ℕ) × IsNamed (as_domain (D.plain _domain.now)) (kept_rows D.value_of (D.plain _domain.now) table.old.rows) j (key_name D.value_of key.now) }
-    ensures absent { result ≡ false → (j : ℕ) → IsNamed (as_domain (D.plain _domain.now)) (kept_rows D.value_of (D.plain _domain.now) table.old.rows) j (key_name D.value_of key.now) → ⊥ }
+    ensures found { result ≡ true → (j : ℕ) × IsNamed (as_domain (D.plain _domain.now)) (kept_rows D.value_of (D.plain _domain.now) table.old.rows) j
+        (key_name D.value_of key.now) }
+    ensures absent { result ≡ false → (j : ℕ) → IsNamed (as_domain (D.plain _domain.now)) (kept_rows D.value_of (D.plain _domain.now) table.old.rows) j
+        (key_name D.value_of key.now) → ⊥ }
 {
     match table.find(key) {
         Some(row) => {

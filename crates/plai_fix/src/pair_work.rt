@@ -49,7 +49,8 @@ fn due_clause<'a, D: Domain>(
     requires row { row < length table.now.rows }
     requires number { 1 ≤ number }
     requires there { (name : Key D.Value) → slice_get (names_of table.now.rows) row ≡ Some name → number ≤ length (clauses_of program.now name.pred) }
-    ensures { (name : Key D.Value) → slice_get (names_of table.now.rows) row ≡ Some name → slice_get (clauses_of program.now name.pred) (number - 1) ≡ Some result.now }
+    ensures { (name : Key D.Value) → slice_get (names_of table.now.rows) row ≡ Some name
+        → slice_get (clauses_of program.now name.pred) (number - 1) ≡ Some result.now }
 {
     let clauses = program.clauses_of(&table.row(row).name.pred);
     &clauses[(number - 1) as usize]
@@ -71,7 +72,8 @@ fn evaluate_due<D: Domain, W: Work, L: Ledger>(
     requires at_work { IsAtWork (D.plain task.now.domain.now) task.now.program.now task.now.limit begun.told (W.entries work.old) (steps.old - begun.steps)
         (state_of D.value_of (D.plain task.now.domain.now) table.now.rows arcs.old) (is_dirty unmet.old) }
     requires dirty { is_dirty arcs.old row number ≡ true }
-    ensures evaluated { IfOk result (λ e. IsPastEvaluation (D.plain task.now.domain.now) task.now.program.now task.now.limit begun.told (W.entries work.new) (steps.new - begun.steps + 1)
+    ensures evaluated { IfOk result (λ e. IsPastEvaluation (D.plain task.now.domain.now) task.now.program.now task.now.limit begun.told (W.entries work.new)
+        (steps.new - begun.steps + 1)
         (state_of D.value_of (D.plain task.now.domain.now) table.now.rows arcs.new) (is_dirty unmet.new) (Some (row, number - 1)) row (number - 1)
         (map (key_name D.value_of) e.calls) (option_map D.value_of e.answer)) }
     ensures moves { OnOk result (Moves (as_domain (D.plain task.now.domain.now)) (as_program (D.plain task.now.domain.now) task.now.program.now) task.now.limit
@@ -79,7 +81,8 @@ fn evaluate_due<D: Domain, W: Work, L: Ledger>(
         (state_of D.value_of (D.plain task.now.domain.now) table.now.rows arcs.new) Nothing) }
     ensures dirty { OnOk result ((r c : ℕ) → is_dirty arcs.new r c ≡ true → is_dirty arcs.old r c ≡ true) }
     ensures some { OnOk result (1 ≤ number) }
-    ensures stops { IfErr result (Stops (D.plain task.now.domain.now) task.now.program.now task.now.limit begun.told (W.entries work.new) (steps.new - begun.steps)) }
+    ensures stops { IfErr result (Stops (D.plain task.now.domain.now) task.now.program.now task.now.limit begun.told (W.entries work.new)
+        (steps.new - begun.steps)) }
 {
     let clause = due_clause(task.domain, task.program, table, row, number);
     let evaluated = evaluate_pair(
@@ -146,7 +149,8 @@ pub(crate) fn work_pair<D: Domain, W: Work, L: Ledger>(
         (state_of D.value_of (D.plain task.now.domain.now) table.old.rows arcs.old) (is_dirty unmet.old) }
     requires dirty { is_dirty arcs.old row number ≡ true }
     requires queued { IsQueued (is_dirty arcs.old) (heap_items queue.old) }
-    ensures at_work { OnOk result (IsAtWork (D.plain task.now.domain.now) task.now.program.now task.now.limit begun.told (W.entries work.new) (steps.new - begun.steps)
+    ensures at_work { OnOk result (IsAtWork (D.plain task.now.domain.now) task.now.program.now task.now.limit begun.told (W.entries work.new)
+        (steps.new - begun.steps)
         (state_of D.value_of (D.plain task.now.domain.now) table.new.rows arcs.new) (is_dirty unmet.new)) }
     ensures queued { OnOk result (IsQueued (is_dirty arcs.new) (heap_items queue.new)) }
     ensures moves { IfOk result (Moves (as_domain (D.plain task.now.domain.now)) (as_program (D.plain task.now.domain.now) task.now.program.now) task.now.limit
@@ -154,7 +158,8 @@ pub(crate) fn work_pair<D: Domain, W: Work, L: Ledger>(
         (state_of D.value_of (D.plain task.now.domain.now) table.new.rows arcs.new)) }
     ensures extends { OnOk result (Extends (as_domain (D.plain task.now.domain.now)) (kept_rows D.value_of (D.plain task.now.domain.now) table.old.rows)
         (kept_rows D.value_of (D.plain task.now.domain.now) table.new.rows)) }
-    ensures stops { IfErr result (Stops (D.plain task.now.domain.now) task.now.program.now task.now.limit begun.told (W.entries work.new) (steps.new - begun.steps)) }
+    ensures stops { IfErr result (Stops (D.plain task.now.domain.now) task.now.program.now task.now.limit begun.told (W.entries work.new)
+        (steps.new - begun.steps)) }
 {
     let Evaluated { answer, calls } = evaluate_due(
         task, table, arcs, unmet, row, number, work, steps,

@@ -105,16 +105,20 @@ fn place_next<D: Domain, W: Work>(
     requires of_rows { AreOfRows (state_of D.value_of (D.plain task.now.domain.now) table.old.rows arcs.old) }
     ensures placing { IfOk result (λ met. (begun : Option (List WorkEntry)) (cost : ℕ) (unmet : ℕ → ℕ → Bool) (n i : ℕ) (called left : List (Name PredKey Abs))
         → IsPlacing (D.plain task.now.domain.now) task.now.program.now task.now.limit begun (W.entries work.old) cost
-        (state_of D.value_of (D.plain task.now.domain.now) table.old.rows arcs.old) unmet n i called (λ j. list_any (nat_eq j) rows.old.items) (left ++ key_name D.value_of name ∷ []) full
+        (state_of D.value_of (D.plain task.now.domain.now) table.old.rows arcs.old) unmet n i called (λ j. list_any (nat_eq j) rows.old.items)
+        (left ++ key_name D.value_of name ∷ []) full
         → IsPlacing (D.plain task.now.domain.now) task.now.program.now task.now.limit begun (W.entries work.new) cost
         (state_of D.value_of (D.plain task.now.domain.now) table.new.rows arcs.new) unmet n i called (λ j. list_any (nat_eq j) rows.new.items) left met) }
     ensures told { OnErr result ((begun : Option (List WorkEntry)) (cost : ℕ) (unmet : ℕ → ℕ → Bool) (n i : ℕ) (called left : List (Name PredKey Abs))
         → IsPlacing (D.plain task.now.domain.now) task.now.program.now task.now.limit begun (W.entries work.old) cost
-        (state_of D.value_of (D.plain task.now.domain.now) table.old.rows arcs.old) unmet n i called (λ j. list_any (nat_eq j) rows.old.items) (left ++ key_name D.value_of name ∷ []) full
+        (state_of D.value_of (D.plain task.now.domain.now) table.old.rows arcs.old) unmet n i called (λ j. list_any (nat_eq j) rows.old.items)
+        (left ++ key_name D.value_of name ∷ []) full
         → HasLog (D.plain task.now.domain.now) task.now.program.now begun (W.entries work.new) 0
-        (IsLegalLog (as_domain (D.plain task.now.domain.now)) (as_program (D.plain task.now.domain.now) task.now.program.now) task.now.limit (no_work (as_domain (D.plain task.now.domain.now))))) }
+        (IsLegalLog (as_domain (D.plain task.now.domain.now)) (as_program (D.plain task.now.domain.now) task.now.program.now) task.now.limit
+        (no_work (as_domain (D.plain task.now.domain.now))))) }
     ensures of_rows { OnOk result (AreOfRows (state_of D.value_of (D.plain task.now.domain.now) table.new.rows arcs.new)) }
-    ensures adds { OnOk result (Adds (as_domain (D.plain task.now.domain.now)) task.now.limit (state_of D.value_of (D.plain task.now.domain.now) table.old.rows arcs.old)
+    ensures adds { OnOk result (Adds (as_domain (D.plain task.now.domain.now)) task.now.limit
+        (state_of D.value_of (D.plain task.now.domain.now) table.old.rows arcs.old)
         (state_of D.value_of (D.plain task.now.domain.now) table.new.rows arcs.new)) }
     ensures extends { OnOk result (Extends (as_domain (D.plain task.now.domain.now)) (kept_rows D.value_of (D.plain task.now.domain.now) table.old.rows)
         (kept_rows D.value_of (D.plain task.now.domain.now) table.new.rows)) }
@@ -144,15 +148,19 @@ pub(crate) fn place_all<D: Domain, W: Work>(
     requires of_rows { AreOfRows (state_of D.value_of (D.plain task.now.domain.now) table.old.rows arcs.old) }
     ensures placing { IfOk result (λ met. (begun : Option (List WorkEntry)) (cost : ℕ) (unmet : ℕ → ℕ → Bool) (n i : ℕ) (called : List (Name PredKey Abs))
         → IsPlacing (D.plain task.now.domain.now) task.now.program.now task.now.limit begun (W.entries work.old) cost
-        (state_of D.value_of (D.plain task.now.domain.now) table.old.rows arcs.old) unmet n i called (λ j. list_any (nat_eq j) rows.old.items) (map (key_name D.value_of) missing.items) false
+        (state_of D.value_of (D.plain task.now.domain.now) table.old.rows arcs.old) unmet n i called (λ j. list_any (nat_eq j) rows.old.items)
+        (map (key_name D.value_of) missing.items) false
         → IsPlacing (D.plain task.now.domain.now) task.now.program.now task.now.limit begun (W.entries work.new) cost
         (state_of D.value_of (D.plain task.now.domain.now) table.new.rows arcs.new) unmet n i called (λ j. list_any (nat_eq j) rows.new.items) [] met) }
     ensures told { OnErr result ((begun : Option (List WorkEntry)) (cost : ℕ) (unmet : ℕ → ℕ → Bool) (n i : ℕ) (called : List (Name PredKey Abs))
         → IsPlacing (D.plain task.now.domain.now) task.now.program.now task.now.limit begun (W.entries work.old) cost
-        (state_of D.value_of (D.plain task.now.domain.now) table.old.rows arcs.old) unmet n i called (λ j. list_any (nat_eq j) rows.old.items) (map (key_name D.value_of) missing.items) false
+        (state_of D.value_of (D.plain task.now.domain.now) table.old.rows arcs.old) unmet n i called (λ j. list_any (nat_eq j) rows.old.items)
+        (map (key_name D.value_of) missing.items) false
         → HasLog (D.plain task.now.domain.now) task.now.program.now begun (W.entries work.new) 0
-        (IsLegalLog (as_domain (D.plain task.now.domain.now)) (as_program (D.plain task.now.domain.now) task.now.program.now) task.now.limit (no_work (as_domain (D.plain task.now.domain.now))))) }
-    ensures adds { OnOk result (Adds (as_domain (D.plain task.now.domain.now)) task.now.limit (state_of D.value_of (D.plain task.now.domain.now) table.old.rows arcs.old)
+        (IsLegalLog (as_domain (D.plain task.now.domain.now)) (as_program (D.plain task.now.domain.now) task.now.program.now) task.now.limit
+        (no_work (as_domain (D.plain task.now.domain.now))))) }
+    ensures adds { OnOk result (Adds (as_domain (D.plain task.now.domain.now)) task.now.limit
+        (state_of D.value_of (D.plain task.now.domain.now) table.old.rows arcs.old)
         (state_of D.value_of (D.plain task.now.domain.now) table.new.rows arcs.new)) }
     ensures extends { OnOk result (Extends (as_domain (D.plain task.now.domain.now)) (kept_rows D.value_of (D.plain task.now.domain.now) table.old.rows)
         (kept_rows D.value_of (D.plain task.now.domain.now) table.new.rows)) }

@@ -39,14 +39,17 @@ fn work_clauses<D: Domain, W: Work, L: Ledger>(
     requires at_work { IsAtWork (D.plain task.now.domain.now) task.now.program.now task.now.limit begun.told (W.entries work.old) (steps.old - begun.steps)
         (state_of D.value_of (D.plain task.now.domain.now) table.old.rows arcs.old) (is_dirty unmet.old) }
     requires queued { IsQueued (is_dirty arcs.old) (heap_items queue.old) }
-    ensures at_work { OnOk result (IsAtWork (D.plain task.now.domain.now) task.now.program.now task.now.limit begun.told (W.entries work.new) (steps.new - begun.steps)
+    ensures at_work { OnOk result (IsAtWork (D.plain task.now.domain.now) task.now.program.now task.now.limit begun.told (W.entries work.new)
+        (steps.new - begun.steps)
         (state_of D.value_of (D.plain task.now.domain.now) table.new.rows arcs.new) (is_dirty unmet.new)) }
     ensures queued { OnOk result (IsQueued (is_dirty arcs.new) (heap_items queue.new)) }
     ensures extends { OnOk result (Extends (as_domain (D.plain task.now.domain.now)) (kept_rows D.value_of (D.plain task.now.domain.now) table.old.rows)
         (kept_rows D.value_of (D.plain task.now.domain.now) table.new.rows)) }
     ensures rests { IfOk result (Rests (as_domain (D.plain task.now.domain.now)) task.now.limit (λ pred. (D.plain task.now.domain.now).rank)
-        (state_of D.value_of (D.plain task.now.domain.now) table.old.rows arcs.old) (state_of D.value_of (D.plain task.now.domain.now) table.new.rows arcs.new)) }
-    ensures stops { IfErr result (Stops (D.plain task.now.domain.now) task.now.program.now task.now.limit begun.told (W.entries work.new) (steps.new - begun.steps)) }
+        (state_of D.value_of (D.plain task.now.domain.now) table.old.rows arcs.old) (state_of D.value_of
+        (D.plain task.now.domain.now) table.new.rows arcs.new)) }
+    ensures stops { IfErr result (Stops (D.plain task.now.domain.now) task.now.program.now task.now.limit begun.told (W.entries work.new)
+        (steps.new - begun.steps)) }
 {
     while let Some((row, number)) = next_pair(queue, arcs) {
         match work_pair(task, table, arcs, unmet, queue, row, number, work, steps)? {
@@ -72,14 +75,17 @@ fn work_answers<D: Domain, W: Work, L: Ledger>(
     requires at_work { IsAtWork (D.plain task.now.domain.now) task.now.program.now task.now.limit begun.told (W.entries work.old) (steps.old - begun.steps)
         (state_of D.value_of (D.plain task.now.domain.now) table.old.rows arcs.old) (is_dirty unmet.old) }
     requires queued { IsQueued (is_dirty arcs.old) (heap_items queue.old) }
-    ensures at_work { OnOk result (IsAtWork (D.plain task.now.domain.now) task.now.program.now task.now.limit begun.told (W.entries work.new) (steps.new - begun.steps)
+    ensures at_work { OnOk result (IsAtWork (D.plain task.now.domain.now) task.now.program.now task.now.limit begun.told (W.entries work.new)
+        (steps.new - begun.steps)
         (state_of D.value_of (D.plain task.now.domain.now) table.new.rows arcs.new) (is_dirty unmet.new)) }
     ensures queued { OnOk result (IsQueued (is_dirty arcs.new) (heap_items queue.new)) }
     ensures extends { OnOk result (Extends (as_domain (D.plain task.now.domain.now)) (kept_rows D.value_of (D.plain task.now.domain.now) table.old.rows)
         (kept_rows D.value_of (D.plain task.now.domain.now) table.new.rows)) }
     ensures settles { IfOk result (Settles (as_domain (D.plain task.now.domain.now)) task.now.limit
-        (state_of D.value_of (D.plain task.now.domain.now) table.old.rows arcs.old) (state_of D.value_of (D.plain task.now.domain.now) table.new.rows arcs.new)) }
-    ensures stops { IfErr result (Stops (D.plain task.now.domain.now) task.now.program.now task.now.limit begun.told (W.entries work.new) (steps.new - begun.steps)) }
+        (state_of D.value_of (D.plain task.now.domain.now) table.old.rows arcs.old) (state_of D.value_of
+        (D.plain task.now.domain.now) table.new.rows arcs.new)) }
+    ensures stops { IfErr result (Stops (D.plain task.now.domain.now) task.now.program.now task.now.limit begun.told (W.entries work.new)
+        (steps.new - begun.steps)) }
 {
     loop {
         match work_clauses(task, table, arcs, unmet, queue, work, steps)? {
@@ -104,13 +110,15 @@ pub(crate) fn settle<D: Domain, W: Work, L: Ledger>(
     requires at_work { IsAtWork (D.plain task.now.domain.now) task.now.program.now task.now.limit begun.told (W.entries work.old) (steps.old - begun.steps)
         (state_of D.value_of (D.plain task.now.domain.now) table.old.rows arcs.old) (is_dirty unmet.old) }
     requires queued { IsQueued (is_dirty arcs.old) (heap_items queue.old) }
-    ensures at_work { OnOk result (IsAtWork (D.plain task.now.domain.now) task.now.program.now task.now.limit begun.told (W.entries work.new) (steps.new - begun.steps)
+    ensures at_work { OnOk result (IsAtWork (D.plain task.now.domain.now) task.now.program.now task.now.limit begun.told (W.entries work.new)
+        (steps.new - begun.steps)
         (state_of D.value_of (D.plain task.now.domain.now) table.new.rows arcs.new) (is_dirty unmet.new)) }
     ensures queued { OnOk result (IsQueued (is_dirty arcs.new) (heap_items queue.new)) }
     ensures extends { OnOk result (Extends (as_domain (D.plain task.now.domain.now)) (kept_rows D.value_of (D.plain task.now.domain.now) table.old.rows)
         (kept_rows D.value_of (D.plain task.now.domain.now) table.new.rows)) }
     ensures clean { OnOk result ((r c : ℕ) → is_dirty arcs.new r c ≡ false) }
-    ensures stops { IfErr result (Stops (D.plain task.now.domain.now) task.now.program.now task.now.limit begun.told (W.entries work.new) (steps.new - begun.steps)) }
+    ensures stops { IfErr result (Stops (D.plain task.now.domain.now) task.now.program.now task.now.limit begun.told (W.entries work.new)
+        (steps.new - begun.steps)) }
 {
     loop {
         if work_answers(task, table, arcs, unmet, queue, work, steps)? == Change::Nothing {

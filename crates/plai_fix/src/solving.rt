@@ -51,16 +51,21 @@ fn finish<D: Domain>(
 ) -> Result<(), SolveFail>
     requires well_formed { IsWellFormed task.now.program.now }
     requires clean { (r c : ℕ) → is_dirty _arcs.now r c ≡ false }
-    requires opened { AreOpened (as_domain (D.plain task.now.domain.now)) (as_program (D.plain task.now.domain.now) task.now.program.now) task.now.limit (kept_rows D.value_of (D.plain task.now.domain.now) table.old.rows) }
-    requires one_row { (i j : ℕ) (y : Name PredKey Abs) → IsNamed (as_domain (D.plain task.now.domain.now)) (kept_rows D.value_of (D.plain task.now.domain.now) table.old.rows) i y
+    requires opened { AreOpened (as_domain (D.plain task.now.domain.now)) (as_program (D.plain task.now.domain.now) task.now.program.now) task.now.limit
+        (kept_rows D.value_of (D.plain task.now.domain.now) table.old.rows) }
+    requires one_row { (i j : ℕ) (y : Name PredKey Abs) → IsNamed (as_domain (D.plain task.now.domain.now))
+        (kept_rows D.value_of (D.plain task.now.domain.now) table.old.rows) i y
         → IsNamed (as_domain (D.plain task.now.domain.now)) (kept_rows D.value_of (D.plain task.now.domain.now) table.old.rows) j y → i ≡ j }
     requires unmet { (r c : ℕ) → is_dirty unmet.now r c ≡ true → r < length table.old.rows }
     ensures solved { OnOk result ((begun told : Option (List WorkEntry)) (cost : ℕ)
-        → IsAtWork (D.plain task.now.domain.now) task.now.program.now task.now.limit begun told cost (state_of D.value_of (D.plain task.now.domain.now) table.old.rows _arcs.now) (is_dirty unmet.now)
-        → HasLog (D.plain task.now.domain.now) task.now.program.now begun told cost (IsSolvedBy (D.plain task.now.domain.now) task.now.program.now task.now.limit (state_of D.value_of (D.plain task.now.domain.now) table.new.rows _arcs.now))) }
+        → IsAtWork (D.plain task.now.domain.now) task.now.program.now task.now.limit begun told cost
+        (state_of D.value_of (D.plain task.now.domain.now) table.old.rows _arcs.now) (is_dirty unmet.now)
+        → HasLog (D.plain task.now.domain.now) task.now.program.now begun told cost (IsSolvedBy
+        (D.plain task.now.domain.now) task.now.program.now task.now.limit (state_of D.value_of (D.plain task.now.domain.now) table.new.rows _arcs.now))) }
     ensures marked { OnOk result (AreMarked D.value_of (D.plain task.now.domain.now) task.now.program.now table.new.rows) }
     ensures stops { IfErr result (λ fail. (begun told : Option (List WorkEntry)) (cost : ℕ)
-        → IsAtWork (D.plain task.now.domain.now) task.now.program.now task.now.limit begun told cost (state_of D.value_of (D.plain task.now.domain.now) table.old.rows _arcs.now) (is_dirty unmet.now)
+        → IsAtWork (D.plain task.now.domain.now) task.now.program.now task.now.limit begun told cost
+        (state_of D.value_of (D.plain task.now.domain.now) table.old.rows _arcs.now) (is_dirty unmet.now)
         → Stops (D.plain task.now.domain.now) task.now.program.now task.now.limit begun told cost fail) }
 {
     let keys = entry_keys(task)?;
@@ -89,9 +94,11 @@ fn solve_task<D: Domain, W: Work, L: Ledger>(
     requires told { W.entries work.old ≡ begun.told }
     requires steps { steps.old ≡ begun.steps }
     ensures solved { OnOk result (HasLog (D.plain task.now.domain.now) task.now.program.now begun.told (W.entries work.new) (steps.new - begun.steps)
-        (IsSolvedBy (D.plain task.now.domain.now) task.now.program.now task.now.limit (state_of D.value_of (D.plain task.now.domain.now) table.new.rows arcs.new))) }
+        (IsSolvedBy (D.plain task.now.domain.now) task.now.program.now task.now.limit (state_of D.value_of
+        (D.plain task.now.domain.now) table.new.rows arcs.new))) }
     ensures marked { OnOk result (AreMarked D.value_of (D.plain task.now.domain.now) task.now.program.now table.new.rows) }
-    ensures stops { IfErr result (Stops (D.plain task.now.domain.now) task.now.program.now task.now.limit begun.told (W.entries work.new) (steps.new - begun.steps)) }
+    ensures stops { IfErr result (Stops (D.plain task.now.domain.now) task.now.program.now task.now.limit begun.told (W.entries work.new)
+        (steps.new - begun.steps)) }
 {
     let mut unmet = Arcs::new(task.alloc)?;
     let mut queue = BinaryHeap::new(task.alloc);

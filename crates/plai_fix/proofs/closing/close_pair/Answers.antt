@@ -15,8 +15,10 @@ returns-then-full-clause-closed g c =
     let one = c.requires.number in
     ok_more _ _ c.mark_dirty.result c.mark_dirty.ensures.ok
     (λ marks begun told cost called placing.
-    closes_marked p laws c.args.task.now.program.now c.requires.well_formed c.args.task.now.limit begun told cost (state_of value_of p rows c.args.arcs.now) (is_dirty c.args.unmet.now) c.args.row (c.args.number - 1)
-    called (λ j. list_any (nat_eq j) c.args.rows.now) c.args.full placing (state_of value_of p rows c.set_pair_calls.new.arcs) c.in_ok-set_pair_calls.ensures c.if-full.true c.args.number (omega arith)
+    closes_marked p laws c.args.task.now.program.now c.requires.well_formed c.args.task.now.limit begun told cost (state_of value_of p rows c.args.arcs.now)
+    (is_dirty c.args.unmet.now) c.args.row (c.args.number - 1)
+    called (λ j. list_any (nat_eq j) c.args.rows.now) c.args.full placing (state_of value_of p rows c.set_pair_calls.new.arcs) c.in_ok-set_pair_calls.ensures
+    c.if-full.true c.args.number (omega arith)
     (is_dirty c.mark_dirty.new.self) marks)
 
 pub returns-clause-closed : goal.returns-clause-closed
@@ -26,5 +28,7 @@ returns-clause-closed g c =
     let laws = g.met.D.Domain.lawful c.args.task.now.domain.now in
     let rows = c.args.table.now.rows in
     λ begun told cost called placing.
-    closes_free p laws c.args.task.now.program.now c.requires.well_formed c.args.task.now.limit begun told cost (state_of value_of p rows c.args.arcs.now) (is_dirty c.args.unmet.now) c.args.row (c.args.number - 1)
-    called (λ j. list_any (nat_eq j) c.args.rows.now) c.args.full placing (state_of value_of p rows c.set_pair_calls.new.arcs) c.in_ok-set_pair_calls.ensures c.if-full.false
+    closes_free p laws c.args.task.now.program.now c.requires.well_formed c.args.task.now.limit begun told cost (state_of value_of p rows c.args.arcs.now)
+    (is_dirty c.args.unmet.now) c.args.row (c.args.number - 1)
+    called (λ j. list_any (nat_eq j) c.args.rows.now) c.args.full placing (state_of value_of p rows c.set_pair_calls.new.arcs) c.in_ok-set_pair_calls.ensures
+    c.if-full.false

@@ -22,9 +22,11 @@ returns-then-is_empty-clause-at_work g c =
     let zero_length : vec_len c.args.missing ≡ 0 = eqb-true (vec_len c.args.missing) 0 (sym c.is_empty.ensures ∙ c.if-is_empty.true) in
     let empty : c.args.missing.items ≡ [] = no_items c.args.missing.items (vec_len c.args.missing) zero_length c.args.missing.ok.0 in
     λ begun cost called past links.
-    ends_told p laws c.args.task.now.program.now c.requires.well_formed c.args.task.now.limit begun (g.W.Work.entries c.args.work.now) cost (state_of value_of p rows c.args.arcs.now)
+    ends_told p laws c.args.task.now.program.now c.requires.well_formed c.args.task.now.limit begun (g.W.Work.entries c.args.work.now) cost
+    (state_of value_of p rows c.args.arcs.now)
     (is_dirty c.args.unmet.now) c.args.row (c.args.number - 1) called (λ j. list_any (nat_eq j) c.args.rows.items) past
-    (subst (λ ns. Links (as_domain p) (kept_rows value_of p rows) called (λ j. list_any (nat_eq j) c.args.rows.items) ns false) (ap (map (key_name value_of)) empty) links)
+    (subst (λ ns. Links (as_domain p) (kept_rows value_of p rows) called (λ j. list_any (nat_eq j) c.args.rows.items) ns false)
+    (ap (map (key_name value_of)) empty) links)
 
 pub returns-in_err-full-clause-told : goal.returns-in_err-full-clause-told
 returns-in_err-full-clause-told g c =
@@ -34,8 +36,10 @@ returns-in_err-full-clause-told g c =
     err_any _ c.from_residual.result
     (λ begun cost called past links.
     c.in_err-full.ensures.told begun cost (is_dirty c.args.unmet.now) c.args.row (c.args.number - 1) called
-    (starts_placing p laws c.args.task.now.program.now c.requires.well_formed c.args.task.now.limit begun (g.W.Work.entries c.args.work.now) cost (state_of value_of p c.args.table.now.rows c.args.arcs.now)
-    (is_dirty c.args.unmet.now) c.args.row (c.args.number - 1) called (λ j. list_any (nat_eq j) c.args.rows.items) (map (key_name value_of) c.args.missing.items) past links))
+    (starts_placing p laws c.args.task.now.program.now c.requires.well_formed c.args.task.now.limit begun (g.W.Work.entries c.args.work.now) cost
+    (state_of value_of p c.args.table.now.rows c.args.arcs.now)
+    (is_dirty c.args.unmet.now) c.args.row (c.args.number - 1) called (λ j. list_any (nat_eq j) c.args.rows.items)
+    (map (key_name value_of) c.args.missing.items) past links))
 
 pub returns-in_err-close_pair-clause-told : goal.returns-in_err-close_pair-clause-told
 returns-in_err-close_pair-clause-told g c =
@@ -45,11 +49,14 @@ returns-in_err-close_pair-clause-told g c =
     err_any _ c.from_residual-in_err-close_pair.result
     (λ begun cost called past links.
     closes_legal p laws c.args.task.now.program.now c.requires.well_formed c.args.task.now.limit begun (g.W.Work.entries c.place_all.new.work) cost
-    (state_of value_of p c.place_all.new.table.rows c.place_all.new.arcs) (is_dirty c.args.unmet.now) c.args.row (c.args.number - 1) called (λ j. list_any (nat_eq j) c.place_all.new.rows.items)
+    (state_of value_of p c.place_all.new.table.rows c.place_all.new.arcs) (is_dirty c.args.unmet.now) c.args.row (c.args.number - 1) called
+    (λ j. list_any (nat_eq j) c.place_all.new.rows.items)
     c.in_ok-full.full
     (c.in_ok-full.ensures.placing begun cost (is_dirty c.args.unmet.now) c.args.row (c.args.number - 1) called
-    (starts_placing p laws c.args.task.now.program.now c.requires.well_formed c.args.task.now.limit begun (g.W.Work.entries c.args.work.now) cost (state_of value_of p c.args.table.now.rows c.args.arcs.now)
-    (is_dirty c.args.unmet.now) c.args.row (c.args.number - 1) called (λ j. list_any (nat_eq j) c.args.rows.items) (map (key_name value_of) c.args.missing.items) past links)))
+    (starts_placing p laws c.args.task.now.program.now c.requires.well_formed c.args.task.now.limit begun (g.W.Work.entries c.args.work.now) cost
+    (state_of value_of p c.args.table.now.rows c.args.arcs.now)
+    (is_dirty c.args.unmet.now) c.args.row (c.args.number - 1) called (λ j. list_any (nat_eq j) c.args.rows.items)
+    (map (key_name value_of) c.args.missing.items) past links)))
 
 pub returns-clause-at_work : goal.returns-clause-at_work
 returns-clause-at_work g c =
@@ -59,11 +66,14 @@ returns-clause-at_work g c =
     λ begun cost called past links.
     c.in_ok-close_pair.ensures.closed begun (g.W.Work.entries c.place_all.new.work) cost called
     (subst (λ (rs : List ℕ). IsPlacing p c.args.task.now.program.now c.args.task.now.limit begun (g.W.Work.entries c.place_all.new.work) cost
-    (state_of value_of p c.place_all.new.table.rows c.place_all.new.arcs) (is_dirty c.args.unmet.now) c.args.row (c.args.number - 1) called (λ j. list_any (nat_eq j) rs) [] c.in_ok-full.full)
+    (state_of value_of p c.place_all.new.table.rows c.place_all.new.arcs) (is_dirty c.args.unmet.now) c.args.row (c.args.number - 1) called
+    (λ j. list_any (nat_eq j) rs) [] c.in_ok-full.full)
     (sym c.as_slice.ensures.value)
     (c.in_ok-full.ensures.placing begun cost (is_dirty c.args.unmet.now) c.args.row (c.args.number - 1) called
-    (starts_placing p laws c.args.task.now.program.now c.requires.well_formed c.args.task.now.limit begun (g.W.Work.entries c.args.work.now) cost (state_of value_of p c.args.table.now.rows c.args.arcs.now)
-    (is_dirty c.args.unmet.now) c.args.row (c.args.number - 1) called (λ j. list_any (nat_eq j) c.args.rows.items) (map (key_name value_of) c.args.missing.items) past links)))
+    (starts_placing p laws c.args.task.now.program.now c.requires.well_formed c.args.task.now.limit begun (g.W.Work.entries c.args.work.now) cost
+    (state_of value_of p c.args.table.now.rows c.args.arcs.now)
+    (is_dirty c.args.unmet.now) c.args.row (c.args.number - 1) called (λ j. list_any (nat_eq j) c.args.rows.items)
+    (map (key_name value_of) c.args.missing.items) past links)))
 
 pub returns-clause-shifts : goal.returns-clause-shifts
 returns-clause-shifts g c =
@@ -74,9 +84,11 @@ returns-clause-shifts g c =
     let mid = state_of value_of p c.place_all.new.table.rows c.place_all.new.arcs in
     let new = state_of value_of p c.place_all.new.table.rows c.close_pair.new.arcs in
     subst (Shifts (as_domain p) program c.args.task.now.limit (λ pred. p.rank) old new) (sym c.of_rows.ensures)
-    (adds_shift (as_domain p) program c.args.task.now.limit (λ pred. p.rank) old mid new c.args.row (c.args.number - 1) (λ j. list_any (nat_eq j) c.as_slice.result.now)
+    (adds_shift (as_domain p) program c.args.task.now.limit (λ pred. p.rank) old mid new c.args.row (c.args.number - 1)
+    (λ j. list_any (nat_eq j) c.as_slice.result.now)
     c.in_ok-full.ensures.adds c.in_ok-close_pair.ensures.sets c.len-before.result c.len.result _
-    (c.len-before.ensures.len ∙ sym (kept_length _ value_of p c.args.table.now.rows)) (c.len.ensures.len ∙ sym (kept_length _ value_of p c.place_all.new.table.rows)) (is_less c.len-before.result c.len.result) (not_less c.len-before.result c.len.result))
+    (c.len-before.ensures.len ∙ sym (kept_length _ value_of p c.args.table.now.rows)) (c.len.ensures.len
+    ∙ sym (kept_length _ value_of p c.place_all.new.table.rows)) (is_less c.len-before.result c.len.result) (not_less c.len-before.result c.len.result))
 
 pub returns-clause-queued : goal.returns-clause-queued
 returns-clause-queued g c = λ q n m e. c.in_ok-full.ensures.queued q n m (sym (c.in_ok-close_pair.ensures.sets.dirty n m) ∙ e)

@@ -11,7 +11,8 @@ loop-row-preserved g c =
     record {
       same = ap (kept_rows value_of p) c.set_entry.ensures.rows ∙ entry_kept _ value_of p rows c.loop-row.row false ∙ c.loop-row.invariant.same;
       length = ap length c.set_entry.ensures.rows ∙ entry_length _ value_of p rows c.loop-row.row false ∙ c.loop-row.invariant.length;
-      cleared = λ m r l e. cleared_more _ value_of p rows c.loop-row.row c.loop-row.invariant.cleared m r l (subst (λ rs. slice_get rs m ≡ Some r) c.set_entry.ensures.rows e);
+      cleared = λ m r l e. cleared_more _ value_of p rows c.loop-row.row c.loop-row.invariant.cleared m r l
+          (subst (λ rs. slice_get rs m ≡ Some r) c.set_entry.ensures.rows e);
     }
 
 pub returns-clause-marked : goal.returns-clause-marked

@@ -16,7 +16,8 @@ pub mark_entry-found-requires : goal.mark_entry-found-requires
 mark_entry-found-requires g c =
     let p = g.D.Domain.plain c.args.domain.now in
     λ i j y a b.
-    c.requires i j y (subst (λ ks. IsNamed (as_domain p) ks i y) c.loop-key.invariant.same a) (subst (λ ks. IsNamed (as_domain p) ks j y) c.loop-key.invariant.same b)
+    c.requires i j y (subst (λ ks. IsNamed (as_domain p) ks i y) c.loop-key.invariant.same a)
+    (subst (λ ks. IsNamed (as_domain p) ks j y) c.loop-key.invariant.same b)
 
 pub loop-key-preserved : goal.loop-key-preserved
 loop-key-preserved g c =
@@ -30,11 +31,14 @@ loop-key-preserved g c =
     names_more (key_name value_of) c.args.keys.now c.loop-key.key-index c.key-item.result c.loop-key-test.true c.key-item.is in
     record {
       same = c.mark_entry-found.ensures.same ∙ c.loop-key.invariant.same;
-      marked = subst (λ (ns : List (Name PredKey Abs)). AreMarkedAs value_of ns c.mark_entry-found.new.table.rows) (sym more) (c.mark_entry-found.ensures.marked names c.loop-key.invariant.marked);
+      marked = subst (λ (ns : List (Name PredKey Abs)). AreMarkedAs value_of ns c.mark_entry-found.new.table.rows) (sym more)
+          (c.mark_entry-found.ensures.marked names c.loop-key.invariant.marked);
       found = λ t x i.
-          all_found p old now c.loop-key.invariant.same names y c.loop-key.all c.mark_entry-found.result c.loop-key.invariant.found c.mark_entry-found.ensures.found t x (subst (IsIn x) more i);
+          all_found p old now c.loop-key.invariant.same names y c.loop-key.all c.mark_entry-found.result c.loop-key.invariant.found
+          c.mark_entry-found.ensures.found t x (subst (IsIn x) more i);
       absent = λ t.
-          let (x, i, none) = one_absent p old now c.loop-key.invariant.same names y c.loop-key.all c.mark_entry-found.result c.loop-key.invariant.absent c.mark_entry-found.ensures.absent t in
+          let (x, i, none) = one_absent p old now c.loop-key.invariant.same names y c.loop-key.all c.mark_entry-found.result c.loop-key.invariant.absent
+          c.mark_entry-found.ensures.absent t in
           (x, subst (IsIn x) (sym more) i, none);
     }
 

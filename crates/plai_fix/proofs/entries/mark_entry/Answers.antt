@@ -17,7 +17,8 @@ returns-in-Some-clause-marked g c =
     let p = g.D.Domain.plain c.args._domain.now in
     let value_of = g.D.Domain.value_of in
     let rows = c.args.table.now.rows in
-    let at : position (same_key _ value_of g.D.Value.PartialEq.eq g.met.D.Domain.equal c.args.key.now) (names_of rows) ≡ Some c.in-Some.row = sym c.in-Some.ensures in
+    let at : position (same_key _ value_of g.D.Value.PartialEq.eq g.met.D.Domain.equal c.args.key.now)
+    (names_of rows) ≡ Some c.in-Some.row = sym c.in-Some.ensures in
     λ names marked.
     subst (AreMarkedAs value_of (names ++ key_name value_of c.args.key.now ∷ [])) (sym c.set_entry.ensures.rows)
     (marked_more _ value_of p rows names (key_name value_of c.args.key.now) marked c.in-Some.row
@@ -28,7 +29,8 @@ returns-in-Some-clause-found g c =
     let p = g.D.Domain.plain c.args._domain.now in
     let value_of = g.D.Domain.value_of in
     let rows = c.args.table.now.rows in
-    let at : position (same_key _ value_of g.D.Value.PartialEq.eq g.met.D.Domain.equal c.args.key.now) (names_of rows) ≡ Some c.in-Some.row = sym c.in-Some.ensures in
+    let at : position (same_key _ value_of g.D.Value.PartialEq.eq g.met.D.Domain.equal c.args.key.now)
+    (names_of rows) ≡ Some c.in-Some.row = sym c.in-Some.ensures in
     λ e. (c.in-Some.row, found_named _ value_of g.D.Value.PartialEq.eq g.met.D.Domain.equal p c.args.key.now rows c.in-Some.row at)
 
 pub returns-in-None-clause-marked : goal.returns-in-None-clause-marked
@@ -38,7 +40,8 @@ returns-in-None-clause-marked g c =
     let rows = c.args.table.now.rows in
     let none : position (same_key _ value_of g.D.Value.PartialEq.eq g.met.D.Domain.equal c.args.key.now) (names_of rows) ≡ None = sym c.in-None.ensures in
     λ names marked.
-    marked_none _ value_of p rows names (key_name value_of c.args.key.now) marked (absent_named _ value_of g.D.Value.PartialEq.eq g.met.D.Domain.equal p c.args.key.now rows none)
+    marked_none _ value_of p rows names (key_name value_of c.args.key.now) marked (absent_named _ value_of g.D.Value.PartialEq.eq g.met.D.Domain.equal p
+    c.args.key.now rows none)
 
 pub returns-in-None-clause-absent : goal.returns-in-None-clause-absent
 returns-in-None-clause-absent g c =

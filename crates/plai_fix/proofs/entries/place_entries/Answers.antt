@@ -40,8 +40,10 @@ returns-clause-opened g c =
     let value_of = g.D.Domain.value_of in
     let none : c.pop.result ≡ None = search rules in
     let length_is : (vec_len c.loop-key.keys ≡ 0) × (vec_len c.pop.new.self ≡ 0) =
-    subst (λ o. MatchOption o ((vec_len c.loop-key.keys ≡ 0) × (vec_len c.pop.new.self ≡ 0)) (λ _. vec_len c.pop.new.self + 1 ≡ vec_len c.loop-key.keys)) none c.pop.ensures.cases in
+    subst (λ o. MatchOption o ((vec_len c.loop-key.keys ≡ 0) × (vec_len c.pop.new.self ≡ 0))
+    (λ _. vec_len c.pop.new.self + 1 ≡ vec_len c.loop-key.keys)) none c.pop.ensures.cases in
     let empty : c.loop-key.keys.items ≡ [] =
     popped_none c.loop-key.keys.items c.pop.new.self.items (vec_len c.loop-key.keys) c.pop.result none length_is.0 c.pop.ensures.items c.pop.ensures.rest in
-    opening_none (as_domain p) (as_program p c.args.task.now.program.now) c.args.task.now.limit (kept_rows value_of p c.loop-key.table.rows) (map (key_name value_of) c.loop-key.keys.items)
+    opening_none (as_domain p) (as_program p c.args.task.now.program.now) c.args.task.now.limit (kept_rows value_of p c.loop-key.table.rows)
+    (map (key_name value_of) c.loop-key.keys.items)
     (ap (map (key_name value_of)) empty) c.loop-key.invariant.opening

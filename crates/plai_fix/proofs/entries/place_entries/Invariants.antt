@@ -22,7 +22,8 @@ invariant-loop-key g l =
     let now = state_of value_of p l.table.rows l.arcs in
     let left = map (key_name value_of) l.keys.items in
     record {
-      at_work : (begun : Option (List WorkEntry)) (cost : ℕ) (unmet : ℕ → ℕ → Bool) → IsAtWork p program l.task.limit begun (g.W.Work.entries l.initial.work) cost old unmet
+      at_work : (begun : Option (List WorkEntry)) (cost : ℕ) (unmet : ℕ → ℕ → Bool) → IsAtWork p program l.task.limit begun
+          (g.W.Work.entries l.initial.work) cost old unmet
           → IsAtWork p program l.task.limit begun (g.W.Work.entries l.work) cost now unmet;
       of_rows : AreOfRows now;
       opening : AreOpening (as_domain p) (as_program p program) l.task.limit (kept_rows value_of p l.table.rows) left;

@@ -14,18 +14,22 @@ use Rattle.plai_fix.proofs.growing.grow_row.Goals as goal
 pub returns-clause-answers : goal.returns-clause-answers
 returns-clause-answers g c =
     let p = g.D.Domain.plain c.args.task.now.domain.now in
-    answers _ g.D.Domain.value_of p c.args.task.now.program.now c.args.table.now.rows (is_dirty c.args.arcs.now) (is_dirty c.mark_pairs.new.arcs) (is_call c.args.arcs.now) (is_call c.mark_pairs.new.arcs)
+    answers _ g.D.Domain.value_of p c.args.task.now.program.now c.args.table.now.rows (is_dirty c.args.arcs.now) (is_dirty c.mark_pairs.new.arcs)
+    (is_call c.args.arcs.now) (is_call c.mark_pairs.new.arcs)
     c.in_ok-mark_pairs.ensures.calls c.args.answer c.args.row
-    (λ r k. c.in_ok-mark_pairs.ensures.dirty r k ∙ ap (λ (b : Bool). b || is_dirty c.args.arcs.now r k) (ap (list_any (is_pair r k)) c.deref.ensures.value ∙ sym (c.in_ok-callers.ensures r k)))
+    (λ r k. c.in_ok-mark_pairs.ensures.dirty r k ∙ ap (λ (b : Bool). b || is_dirty c.args.arcs.now r k)
+    (ap (list_any (is_pair r k)) c.deref.ensures.value ∙ sym (c.in_ok-callers.ensures r k)))
     c.raise.new.self.rows c.raise.ensures.rows
 
 pub returns-clause-noted : goal.returns-clause-noted
 returns-clause-noted g c = λ name e.
-    subst (λ (z : Key g.row.D-Value.Denot). g.W.Work.entries c.note_grew.new.work ≡ noted (entries.Grew (name_of g.D.Domain.value_of z) (g.D.Domain.value_of c.args.answer)) (g.W.Work.entries c.args.work.now))
+    subst (λ (z : Key g.row.D-Value.Denot). g.W.Work.entries c.note_grew.new.work ≡ noted
+    (entries.Grew (name_of g.D.Domain.value_of z) (g.D.Domain.value_of c.args.answer)) (g.W.Work.entries c.args.work.now))
     (one_name c.args.table.now.rows c.args.row _ name c.row.ensures e) c.in_ok-note_grew.ensures.ok
 
 pub returns-clause-queued : goal.returns-clause-queued
 returns-clause-queued g c = λ queued.
-    queued_more (is_dirty c.args.arcs.now) (is_dirty c.mark_pairs.new.arcs) c.in_ok-callers.callers.items (heap_items c.args.queue.now) (heap_items c.push_rows.new.queue) queued
+    queued_more (is_dirty c.args.arcs.now) (is_dirty c.mark_pairs.new.arcs) c.in_ok-callers.callers.items (heap_items c.args.queue.now)
+    (heap_items c.push_rows.new.queue) queued
     (λ r k. c.in_ok-mark_pairs.ensures.dirty r k ∙ ap (λ (b : Bool). b || is_dirty c.args.arcs.now r k) (ap (list_any (is_pair r k)) c.deref.ensures.value))
     (λ n m t. c.in_ok-push_rows.ensures.rows n m (ap (list_any (is_pair n m)) c.deref-2.ensures.value ∙ t)) c.in_ok-push_rows.ensures.others

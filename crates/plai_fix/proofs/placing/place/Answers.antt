@@ -15,7 +15,8 @@ returns-in-Some-clause-placed g c =
     let value_of = g.D.Domain.value_of in
     let p = g.D.Domain.plain c.args.task.now.domain.now in
     let rows = c.args.table.now.rows in
-    let at : position (same_key _ value_of g.D.Value.PartialEq.eq g.met.D.Domain.equal c.args.name) (names_of rows) ≡ Some c.in-Some.row = sym c.in-Some.ensures in
+    let at : position (same_key _ value_of g.D.Value.PartialEq.eq g.met.D.Domain.equal c.args.name)
+    (names_of rows) ≡ Some c.in-Some.row = sym c.in-Some.ensures in
     IsThere c.in-Some.row (found_named _ value_of g.D.Value.PartialEq.eq g.met.D.Domain.equal p c.args.name rows c.in-Some.row at)
 
 pub returns-in_ok-begin_row-in-Ok-clause-placed : goal.returns-in_ok-begin_row-in-Ok-clause-placed
@@ -34,8 +35,10 @@ returns-in_ok-begin_row-in-Ok-clause-placed g c =
     placed_made p program c.args.task.now.limit (key_name value_of c.args.name) (state_of value_of p rows c.args.arcs.now) (g.W.Work.entries c.args.work.now)
     (state_of value_of p c.add.new.self.rows c.begin_row.new.arcs) (g.W.Work.entries c.begin_row.new.work) c.in-Ok.row
     (absent_named _ value_of g.D.Value.PartialEq.eq g.met.D.Domain.equal p c.args.name rows none) (omega arith)
-    (makes _ value_of p program rows (is_dirty c.args.arcs.now) (is_dirty c.begin_row.new.arcs) (is_call c.args.arcs.now) (is_call c.begin_row.new.arcs) c.in_ok-begin_row-in-Ok.ensures.calls
-    c.args.name c.in-Ok.row (length (clauses_of program c.args.name.pred)) at refl (fresh_row _ value_of p rows (is_dirty c.args.arcs.now) c.requires) (c.in_ok-begin_row-in-Ok.ensures.dirty c.args.name named)
+    (makes _ value_of p program rows (is_dirty c.args.arcs.now) (is_dirty c.begin_row.new.arcs) (is_call c.args.arcs.now)
+    (is_call c.begin_row.new.arcs) c.in_ok-begin_row-in-Ok.ensures.calls
+    c.args.name c.in-Ok.row (length (clauses_of program c.args.name.pred)) at refl (fresh_row _ value_of p rows (is_dirty c.args.arcs.now) c.requires)
+    (c.in_ok-begin_row-in-Ok.ensures.dirty c.args.name named)
     c.add.new.self.rows added)
     (at ∙ sym (kept_length _ value_of p rows)) (c.in_ok-begin_row-in-Ok.ensures.noted c.args.name named)
 
@@ -49,6 +52,7 @@ returns-in-Err-Full-clause-placed g c =
     let same : c.add.new.self.rows ≡ rows = search rules in
     let met : c.args.task.now.limit ≤ live_count rows = search rules in
     let lives = kept_lives _ value_of p rows in
-    subst (λ rs. Places p program c.args.task.now.limit (key_name value_of c.args.name) (state_of value_of p rows c.args.arcs.now) (g.W.Work.entries c.args.work.now)
+    subst (λ rs. Places p program c.args.task.now.limit (key_name value_of c.args.name) (state_of value_of p rows c.args.arcs.now)
+    (g.W.Work.entries c.args.work.now)
     (state_of value_of p rs c.args.arcs.now) (g.W.Work.entries c.args.work.now) None) (sym same)
     (IsLacking (absent_named _ value_of g.D.Value.PartialEq.eq g.met.D.Domain.equal p c.args.name rows none) (omega arith))

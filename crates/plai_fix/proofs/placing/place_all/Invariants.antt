@@ -22,7 +22,8 @@ invariant-loop-name g l =
     let now = state_of value_of p l.table.rows l.arcs in
     record {
       placing : (begun : Option (List WorkEntry)) (cost : ℕ) (unmet : ℕ → ℕ → Bool) (n i : ℕ) (called : List (Name PredKey Abs))
-          → IsPlacing p l.task.program.now l.task.limit begun (g.W.Work.entries l.initial.work) cost old unmet n i called (λ j. list_any (nat_eq j) l.initial.rows.items)
+          → IsPlacing p l.task.program.now l.task.limit begun (g.W.Work.entries l.initial.work) cost old unmet n i called
+          (λ j. list_any (nat_eq j) l.initial.rows.items)
           (map (key_name value_of) l.initial.missing.items) false
           → IsPlacing p l.task.program.now l.task.limit begun (g.W.Work.entries l.work) cost now unmet n i called (λ j. list_any (nat_eq j) l.rows.items)
           (map (key_name value_of) l.missing.items) l.full;

@@ -17,10 +17,12 @@ returns-in_err-push-in-Some-clause-told g c =
     let new = state_of value_of p c.place.new.table.rows c.place.new.arcs in
     let later = g.W.Work.entries c.place.new.work in
     let laws = g.met.D.Domain.lawful c.args.task.now.domain.now in
-    let placed : Places p program limit y old told new later (Some c.in-Some.row) = subst (Places p program limit y old told new later) c.in-Some.is c.in_ok-row.ensures.placed in
+    let placed : Places p program limit y old told new later (Some c.in-Some.row) = subst
+    (Places p program limit y old told new later) c.in-Some.is c.in_ok-row.ensures.placed in
     err_any _ c.from_residual-in_err-push-in-Some.result
     (λ begun cost unmet n i called left placing.
-    placed_legal p program limit y old told laws c.requires.well_formed begun cost unmet n i called c.args.rows.now.items left c.args.full placing new later (Some c.in-Some.row) placed)
+    placed_legal p program limit y old told laws c.requires.well_formed begun cost unmet n i called c.args.rows.now.items left c.args.full placing new later
+    (Some c.in-Some.row) placed)
 
 pub returns-in_ok-push-in-Some-clause-placing : goal.returns-in_ok-push-in-Some-clause-placing
 returns-in_ok-push-in-Some-clause-placing g c =
@@ -34,9 +36,11 @@ returns-in_ok-push-in-Some-clause-placing g c =
     let new = state_of value_of p c.place.new.table.rows c.place.new.arcs in
     let later = g.W.Work.entries c.place.new.work in
     let laws = g.met.D.Domain.lawful c.args.task.now.domain.now in
-    let placed : Places p program limit y old told new later (Some c.in-Some.row) = subst (Places p program limit y old told new later) c.in-Some.is c.in_ok-row.ensures.placed in
+    let placed : Places p program limit y old told new later (Some c.in-Some.row) = subst
+    (Places p program limit y old told new later) c.in-Some.is c.in_ok-row.ensures.placed in
     λ begun cost unmet n i called left placing.
-    placed_row p program limit y old told laws c.requires.well_formed begun cost unmet n i called c.args.rows.now.items left c.args.full placing new later c.in-Some.row c.push.new.self.items placed
+    placed_row p program limit y old told laws c.requires.well_formed begun cost unmet n i called c.args.rows.now.items left c.args.full placing new later
+    c.in-Some.row c.push.new.self.items placed
     c.in_ok-push-in-Some.ensures.items
 
 pub returns-in_ok-push-in-Some-clause-of_rows : goal.returns-in_ok-push-in-Some-clause-of_rows
@@ -50,7 +54,8 @@ returns-in_ok-push-in-Some-clause-of_rows g c =
     let told = g.W.Work.entries c.args.work.now in
     let new = state_of value_of p c.place.new.table.rows c.place.new.arcs in
     let later = g.W.Work.entries c.place.new.work in
-    let placed : Places p program limit y old told new later (Some c.in-Some.row) = subst (Places p program limit y old told new later) c.in-Some.is c.in_ok-row.ensures.placed in
+    let placed : Places p program limit y old told new later (Some c.in-Some.row) = subst
+    (Places p program limit y old told new later) c.in-Some.is c.in_ok-row.ensures.placed in
     places_rows p program limit y old told new later (Some c.in-Some.row) placed c.requires.of_rows
 
 pub returns-in_ok-push-in-Some-clause-adds : goal.returns-in_ok-push-in-Some-clause-adds
@@ -64,7 +69,8 @@ returns-in_ok-push-in-Some-clause-adds g c =
     let told = g.W.Work.entries c.args.work.now in
     let new = state_of value_of p c.place.new.table.rows c.place.new.arcs in
     let later = g.W.Work.entries c.place.new.work in
-    let placed : Places p program limit y old told new later (Some c.in-Some.row) = subst (Places p program limit y old told new later) c.in-Some.is c.in_ok-row.ensures.placed in
+    let placed : Places p program limit y old told new later (Some c.in-Some.row) = subst
+    (Places p program limit y old told new later) c.in-Some.is c.in_ok-row.ensures.placed in
     places_adds p program limit y old told new later (Some c.in-Some.row) placed
 
 pub returns-in_ok-push-in-Some-clause-extends : goal.returns-in_ok-push-in-Some-clause-extends
@@ -78,7 +84,8 @@ returns-in_ok-push-in-Some-clause-extends g c =
     let told = g.W.Work.entries c.args.work.now in
     let new = state_of value_of p c.place.new.table.rows c.place.new.arcs in
     let later = g.W.Work.entries c.place.new.work in
-    let placed : Places p program limit y old told new later (Some c.in-Some.row) = subst (Places p program limit y old told new later) c.in-Some.is c.in_ok-row.ensures.placed in
+    let placed : Places p program limit y old told new later (Some c.in-Some.row) = subst
+    (Places p program limit y old told new later) c.in-Some.is c.in_ok-row.ensures.placed in
     places_extends p program limit y old told new later (Some c.in-Some.row) placed
 
 pub returns-in-None-clause-placing : goal.returns-in-None-clause-placing
@@ -93,9 +100,11 @@ returns-in-None-clause-placing g c =
     let new = state_of value_of p c.place.new.table.rows c.place.new.arcs in
     let later = g.W.Work.entries c.place.new.work in
     let laws = g.met.D.Domain.lawful c.args.task.now.domain.now in
-    let placed : Places p program limit y old told new later None = subst (Places p program limit y old told new later) c.in-None.is c.in_ok-row.ensures.placed in
+    let placed : Places p program limit y old told new later None = subst (Places p program limit y old told new later) c.in-None.is
+    c.in_ok-row.ensures.placed in
     λ begun cost unmet n i called left placing.
-    placed_none p program limit y old told laws c.requires.well_formed begun cost unmet n i called c.args.rows.now.items left c.args.full placing new later placed
+    placed_none p program limit y old told laws c.requires.well_formed begun cost unmet n i called c.args.rows.now.items left c.args.full placing new later
+    placed
 
 pub returns-in-None-clause-of_rows : goal.returns-in-None-clause-of_rows
 returns-in-None-clause-of_rows g c =
@@ -108,7 +117,8 @@ returns-in-None-clause-of_rows g c =
     let told = g.W.Work.entries c.args.work.now in
     let new = state_of value_of p c.place.new.table.rows c.place.new.arcs in
     let later = g.W.Work.entries c.place.new.work in
-    let placed : Places p program limit y old told new later None = subst (Places p program limit y old told new later) c.in-None.is c.in_ok-row.ensures.placed in
+    let placed : Places p program limit y old told new later None = subst (Places p program limit y old told new later) c.in-None.is
+    c.in_ok-row.ensures.placed in
     places_rows p program limit y old told new later None placed c.requires.of_rows
 
 pub returns-in-None-clause-adds : goal.returns-in-None-clause-adds
@@ -122,7 +132,8 @@ returns-in-None-clause-adds g c =
     let told = g.W.Work.entries c.args.work.now in
     let new = state_of value_of p c.place.new.table.rows c.place.new.arcs in
     let later = g.W.Work.entries c.place.new.work in
-    let placed : Places p program limit y old told new later None = subst (Places p program limit y old told new later) c.in-None.is c.in_ok-row.ensures.placed in
+    let placed : Places p program limit y old told new later None = subst (Places p program limit y old told new later) c.in-None.is
+    c.in_ok-row.ensures.placed in
     places_adds p program limit y old told new later None placed
 
 pub returns-in-None-clause-extends : goal.returns-in-None-clause-extends
@@ -136,5 +147,6 @@ returns-in-None-clause-extends g c =
     let told = g.W.Work.entries c.args.work.now in
     let new = state_of value_of p c.place.new.table.rows c.place.new.arcs in
     let later = g.W.Work.entries c.place.new.work in
-    let placed : Places p program limit y old told new later None = subst (Places p program limit y old told new later) c.in-None.is c.in_ok-row.ensures.placed in
+    let placed : Places p program limit y old told new later None = subst (Places p program limit y old told new later) c.in-None.is
+    c.in_ok-row.ensures.placed in
     places_extends p program limit y old told new later None placed

@@ -7,7 +7,8 @@ pub returns-then-eq-clause-extends : goal.returns-then-eq-clause-extends
 returns-then-eq-clause-extends g c =
     let p = g.D.Domain.plain c.args.task.now.domain.now in
     let value_of = g.D.Domain.value_of in
-    extends_then (as_domain p) (kept_rows value_of p c.args.table.now.rows) (kept_rows value_of p c.loop.table.rows) (kept_rows value_of p c.work_answers.new.table.rows) c.loop.invariant.extends
+    extends_then (as_domain p) (kept_rows value_of p c.args.table.now.rows) (kept_rows value_of p c.loop.table.rows)
+    (kept_rows value_of p c.work_answers.new.table.rows) c.loop.invariant.extends
     c.in_ok-work_answers.ensures.extends
 
 pub loop-preserved : goal.loop-preserved
@@ -17,6 +18,7 @@ loop-preserved g c =
     record {
       at_work = c.in_ok-work_answers.ensures.at_work;
       queued = c.in_ok-work_answers.ensures.queued;
-      extends = extends_then (as_domain p) (kept_rows value_of p c.args.table.now.rows) (kept_rows value_of p c.loop.table.rows) (kept_rows value_of p c.work_answers.new.table.rows)
+      extends = extends_then (as_domain p) (kept_rows value_of p c.args.table.now.rows) (kept_rows value_of p c.loop.table.rows)
+          (kept_rows value_of p c.work_answers.new.table.rows)
           c.loop.invariant.extends c.in_ok-work_answers.ensures.extends;
     }

@@ -14,11 +14,13 @@ loop-change-preserved g c =
     let limit = c.args.task.now.limit in
     let mid = state_of value_of p c.loop-change.table.rows c.loop-change.arcs in
     let new = state_of value_of p c.work_clauses.new.table.rows c.work_clauses.new.arcs in
-    let rests : Rests (as_domain p) limit (λ pred. p.rank) mid new Grown = subst (Rests (as_domain p) limit (λ pred. p.rank) mid new) c.in-Grown.is c.in_ok-change.ensures.rests in
+    let rests : Rests (as_domain p) limit (λ pred. p.rank) mid new Grown = subst (Rests (as_domain p) limit
+    (λ pred. p.rank) mid new) c.in-Grown.is c.in_ok-change.ensures.rests in
     record {
       at_work = c.in_ok-change.ensures.at_work;
       queued = c.in_ok-change.ensures.queued;
-      extends = extends_then (as_domain p) (kept_rows value_of p c.args.table.now.rows) (kept_rows value_of p c.loop-change.table.rows) (kept_rows value_of p c.work_clauses.new.table.rows)
+      extends = extends_then (as_domain p) (kept_rows value_of p c.args.table.now.rows) (kept_rows value_of p c.loop-change.table.rows)
+          (kept_rows value_of p c.work_clauses.new.table.rows)
           c.loop-change.invariant.extends c.in_ok-change.ensures.extends;
       room = rests.0 ∙ c.loop-change.invariant.room;
     }
@@ -31,10 +33,13 @@ returns-in_default g c =
     record {
       at_work = c.in_ok-change.ensures.at_work;
       queued = c.in_ok-change.ensures.queued;
-      extends = extends_then (as_domain p) (kept_rows value_of p c.args.table.now.rows) (kept_rows value_of p c.loop-change.table.rows) (kept_rows value_of p c.work_clauses.new.table.rows)
+      extends = extends_then (as_domain p) (kept_rows value_of p c.args.table.now.rows) (kept_rows value_of p c.loop-change.table.rows)
+          (kept_rows value_of p c.work_clauses.new.table.rows)
           c.loop-change.invariant.extends c.in_ok-change.ensures.extends;
-      settles = rests_settle (as_domain p) (as_program p c.args.task.now.program.now) limit (λ pred. p.rank) (state_of value_of p c.args.table.now.rows c.args.arcs.now)
-          (state_of value_of p c.loop-change.table.rows c.loop-change.arcs) (state_of value_of p c.work_clauses.new.table.rows c.work_clauses.new.arcs) c.in_ok-change.change c.in_default.not-Grown
+      settles = rests_settle (as_domain p) (as_program p c.args.task.now.program.now) limit (λ pred. p.rank)
+          (state_of value_of p c.args.table.now.rows c.args.arcs.now)
+          (state_of value_of p c.loop-change.table.rows c.loop-change.arcs) (state_of value_of p c.work_clauses.new.table.rows c.work_clauses.new.arcs)
+          c.in_ok-change.change c.in_default.not-Grown
           c.loop-change.invariant.room c.in_ok-change.ensures.rests;
       stops = tt;
     }

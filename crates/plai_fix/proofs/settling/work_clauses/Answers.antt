@@ -19,7 +19,8 @@ loop-row-preserved g c =
     record {
       at_work = c.in_ok-change.ensures.at_work;
       queued = c.in_ok-change.ensures.queued;
-      extends = extends_then (as_domain p) (kept_rows value_of p c.args.table.now.rows) (kept_rows value_of p c.loop-row.table.rows) (kept_rows value_of p c.work_pair.new.table.rows)
+      extends = extends_then (as_domain p) (kept_rows value_of p c.args.table.now.rows) (kept_rows value_of p c.loop-row.table.rows)
+          (kept_rows value_of p c.work_pair.new.table.rows)
           c.loop-row.invariant.extends c.in_ok-change.ensures.extends;
       room = moves.0 ∙ c.loop-row.invariant.room;
       ranks = moves.1 ∙ c.loop-row.invariant.ranks;
@@ -33,10 +34,13 @@ returns-in_default-2 g c =
     record {
       at_work = c.in_ok-change.ensures.at_work;
       queued = c.in_ok-change.ensures.queued;
-      extends = extends_then (as_domain p) (kept_rows value_of p c.args.table.now.rows) (kept_rows value_of p c.loop-row.table.rows) (kept_rows value_of p c.work_pair.new.table.rows)
+      extends = extends_then (as_domain p) (kept_rows value_of p c.args.table.now.rows) (kept_rows value_of p c.loop-row.table.rows)
+          (kept_rows value_of p c.work_pair.new.table.rows)
           c.loop-row.invariant.extends c.in_ok-change.ensures.extends;
-      rests = moves_rest (as_domain p) (as_program p c.args.task.now.program.now) limit (λ pred. p.rank) (state_of value_of p c.args.table.now.rows c.args.arcs.now)
-          (state_of value_of p c.loop-row.table.rows c.loop-row.arcs) (state_of value_of p c.work_pair.new.table.rows c.work_pair.new.arcs) c.in_ok-change.change c.in_default-2.not-Nothing
+      rests = moves_rest (as_domain p) (as_program p c.args.task.now.program.now) limit (λ pred. p.rank)
+          (state_of value_of p c.args.table.now.rows c.args.arcs.now)
+          (state_of value_of p c.loop-row.table.rows c.loop-row.arcs) (state_of value_of p c.work_pair.new.table.rows c.work_pair.new.arcs)
+          c.in_ok-change.change c.in_default-2.not-Nothing
           c.loop-row.invariant.room c.loop-row.invariant.ranks c.in_ok-change.ensures.moves;
       stops = tt;
     }

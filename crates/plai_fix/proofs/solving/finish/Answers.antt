@@ -16,11 +16,13 @@ returns-then-not-mark_entries-clause-stops g c =
     let program = c.args.task.now.program.now in
     let laws = g.met.D.Domain.lawful c.args.task.now.domain.now in
     let not_all : c.mark_entries.result ≡ false = search rules in
-    let names : map (key_name value_of) c.as_slice.result.now ≡ (as_program p program).entries = ap (map (key_name value_of)) c.as_slice.ensures.value ∙ c.in_ok-keys.ensures in
+    let names : map (key_name value_of) c.as_slice.result.now ≡ (as_program p program).entries = ap (map (key_name value_of)) c.as_slice.ensures.value
+    ∙ c.in_ok-keys.ensures in
     let (x, inside, absent) = c.mark_entries.ensures.absent not_all in
     λ begun told cost at_work. (
       refl,
-      stopped_entry p laws program c.requires.well_formed c.args.task.now.limit begun told cost (state_of value_of p c.args.table.now.rows c.args._arcs.now) (is_dirty c.args.unmet.now) at_work
+      stopped_entry p laws program c.requires.well_formed c.args.task.now.limit begun told cost (state_of value_of p c.args.table.now.rows c.args._arcs.now)
+          (is_dirty c.args.unmet.now) at_work
           c.requires.clean x (subst (IsIn x) names inside) absent c.requires.opened,
     )
 
@@ -33,7 +35,8 @@ returns-then-has_mark-clause-stops g c =
     let (n, m, mark) = c.has_mark.ensures.marked c.if-has_mark.true in
     λ begun told cost at_work. (
       refl,
-      stopped_pair p laws program c.requires.well_formed c.args.task.now.limit begun told cost (state_of value_of p c.args.table.now.rows c.args._arcs.now) (is_dirty c.args.unmet.now) at_work
+      stopped_pair p laws program c.requires.well_formed c.args.task.now.limit begun told cost (state_of value_of p c.args.table.now.rows c.args._arcs.now)
+          (is_dirty c.args.unmet.now) at_work
           c.requires.clean n m mark,
     )
 
@@ -45,9 +48,12 @@ returns-clause-solved g c =
     let limit = c.args.task.now.limit in
     let laws = g.met.D.Domain.lawful c.args.task.now.domain.now in
     let all : c.mark_entries.result ≡ true = search rules in
-    let names : map (key_name value_of) c.as_slice.result.now ≡ (as_program p program).entries = ap (map (key_name value_of)) c.as_slice.ensures.value ∙ c.in_ok-keys.ensures in
+    let names : map (key_name value_of) c.as_slice.result.now ≡ (as_program p program).entries = ap (map (key_name value_of)) c.as_slice.ensures.value
+    ∙ c.in_ok-keys.ensures in
     λ begun told cost at_work.
-    subst (λ (ks : List (KeptRow (as_domain p))). HasLog p program begun told cost (IsSolvedBy p program limit (record { rows = ks; dirty = is_dirty c.args._arcs.now; calls = is_call c.args._arcs.now })))
+    subst (λ (ks : List (KeptRow (as_domain p))). HasLog p program begun told cost (IsSolvedBy p program limit
+    (record { rows = ks; dirty = is_dirty c.args._arcs.now; calls = is_call c.args._arcs.now })))
     (sym c.mark_entries.ensures.same)
-    (solved_told p laws program c.requires.well_formed limit begun told cost (state_of value_of p c.args.table.now.rows c.args._arcs.now) (is_dirty c.args.unmet.now) at_work c.requires.clean
+    (solved_told p laws program c.requires.well_formed limit begun told cost (state_of value_of p c.args.table.now.rows c.args._arcs.now)
+    (is_dirty c.args.unmet.now) at_work c.requires.clean
     (c.has_mark.ensures.free c.if-has_mark.false) (λ x i. c.mark_entries.ensures.found all x (subst (IsIn x) (sym names) i)))

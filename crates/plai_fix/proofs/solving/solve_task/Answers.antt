@@ -21,9 +21,12 @@ returns-in_err-place_entries-clause-stops g c =
     let steps_same = c.requires.1.1.1.1.1.1.1.1.1.1 in
     let cost = c.args.steps.now - g.begun.steps in
     let begins =
-    begins_told p program limit g.begun.told (g.W.Work.entries c.args.work.now) (state_of value_of p c.args.table.now.rows c.args.arcs.now) (is_dirty c.in_ok-unmet.unmet)
-    c.requires.1.1.1.1.1.1.1.1.1.0 (ap (kept_rows value_of p) c.requires.1.1.1.1.1.1.0) c.requires.1.1.1.1.1.1.1.0 c.requires.1.1.1.1.1.1.1.1.0 c.in_ok-unmet.ensures.dirty cost (omega (arith, steps_same)) in
-    let told : HasLog p program g.begun.told (g.W.Work.entries c.place_entries.new.work) 0 (IsLegalLog (as_domain p) (as_program p program) limit (no_work (as_domain p))) =
+    begins_told p program limit g.begun.told (g.W.Work.entries c.args.work.now) (state_of value_of p c.args.table.now.rows c.args.arcs.now)
+    (is_dirty c.in_ok-unmet.unmet)
+    c.requires.1.1.1.1.1.1.1.1.1.0 (ap (kept_rows value_of p) c.requires.1.1.1.1.1.1.0) c.requires.1.1.1.1.1.1.1.0 c.requires.1.1.1.1.1.1.1.1.0
+    c.in_ok-unmet.ensures.dirty cost (omega (arith, steps_same)) in
+    let told : HasLog p program g.begun.told (g.W.Work.entries c.place_entries.new.work) 0
+    (IsLegalLog (as_domain p) (as_program p program) limit (no_work (as_domain p))) =
     c.in_err-place_entries.ensures.told g.begun.told cost (is_dirty c.in_ok-unmet.unmet) begins in
     search (rules, told)
 
@@ -36,9 +39,12 @@ settle-requires g c =
     let steps_same = c.requires.1.1.1.1.1.1.1.1.1.1 in
     let cost = c.args.steps.now - g.begun.steps in
     let begins =
-    begins_told p program limit g.begun.told (g.W.Work.entries c.args.work.now) (state_of value_of p c.args.table.now.rows c.args.arcs.now) (is_dirty c.in_ok-unmet.unmet)
-    c.requires.1.1.1.1.1.1.1.1.1.0 (ap (kept_rows value_of p) c.requires.1.1.1.1.1.1.0) c.requires.1.1.1.1.1.1.1.0 c.requires.1.1.1.1.1.1.1.1.0 c.in_ok-unmet.ensures.dirty cost (omega (arith, steps_same)) in
-    let at_work : IsAtWork p program limit g.begun.told (g.W.Work.entries c.place_entries.new.work) cost (state_of value_of p c.place_entries.new.table.rows c.place_entries.new.arcs)
+    begins_told p program limit g.begun.told (g.W.Work.entries c.args.work.now) (state_of value_of p c.args.table.now.rows c.args.arcs.now)
+    (is_dirty c.in_ok-unmet.unmet)
+    c.requires.1.1.1.1.1.1.1.1.1.0 (ap (kept_rows value_of p) c.requires.1.1.1.1.1.1.0) c.requires.1.1.1.1.1.1.1.0 c.requires.1.1.1.1.1.1.1.1.0
+    c.in_ok-unmet.ensures.dirty cost (omega (arith, steps_same)) in
+    let at_work : IsAtWork p program limit g.begun.told (g.W.Work.entries c.place_entries.new.work) cost
+    (state_of value_of p c.place_entries.new.table.rows c.place_entries.new.arcs)
     (is_dirty c.in_ok-unmet.unmet) = c.in_ok-place_entries.ensures.at_work g.begun.told cost (is_dirty c.in_ok-unmet.unmet) begins in
     let queued : IsQueued (is_dirty c.place_entries.new.arcs) (heap_items c.place_entries.new.queue) =
     c.in_ok-place_entries.ensures.queued (λ n m e. let l : true ≡ false = sym e ∙ c.requires.1.1.1.1.1.1.1.0 n m in cc) in
@@ -48,7 +54,8 @@ pub finish-requires-clause-opened : goal.finish-requires-clause-opened
 finish-requires-clause-opened g c =
     let p = g.D.Domain.plain c.args.task.now.domain.now in
     let value_of = g.D.Domain.value_of in
-    opened_on (as_domain p) (as_program p c.args.task.now.program.now) c.args.task.now.limit (kept_rows value_of p c.place_entries.new.table.rows) (kept_rows value_of p c.settle.new.table.rows)
+    opened_on (as_domain p) (as_program p c.args.task.now.program.now) c.args.task.now.limit (kept_rows value_of p c.place_entries.new.table.rows)
+    (kept_rows value_of p c.settle.new.table.rows)
     c.in_ok-settle.ensures.extends c.in_ok-place_entries.ensures.opened
 
 pub finish-requires-clause-one_row : goal.finish-requires-clause-one_row
@@ -59,7 +66,8 @@ finish-requires-clause-one_row g c =
     let limit = c.args.task.now.limit in
     let laws = g.met.D.Domain.lawful c.args.task.now.domain.now in
     let k = state_of value_of p c.settle.new.table.rows c.settle.new.arcs in
-    own_rows p laws program c.requires.1.1.1.1.1.0 limit g.begun.told (g.W.Work.entries c.settle.new.work) (c.settle.new.steps - g.begun.steps) k (is_dirty c.settle.new.unmet) c.in_ok-settle.ensures.at_work
+    own_rows p laws program c.requires.1.1.1.1.1.0 limit g.begun.told (g.W.Work.entries c.settle.new.work) (c.settle.new.steps - g.begun.steps) k
+    (is_dirty c.settle.new.unmet) c.in_ok-settle.ensures.at_work
 
 pub finish-requires-clause-unmet : goal.finish-requires-clause-unmet
 finish-requires-clause-unmet g c =
@@ -71,7 +79,8 @@ finish-requires-clause-unmet g c =
     let k = state_of value_of p c.settle.new.table.rows c.settle.new.arcs in
     λ r m e.
     is_there _ value_of p c.settle.new.table.rows r
-    (unmet_rows p laws program c.requires.1.1.1.1.1.0 limit g.begun.told (g.W.Work.entries c.settle.new.work) (c.settle.new.steps - g.begun.steps) k (is_dirty c.settle.new.unmet)
+    (unmet_rows p laws program c.requires.1.1.1.1.1.0 limit g.begun.told (g.W.Work.entries c.settle.new.work) (c.settle.new.steps - g.begun.steps) k
+    (is_dirty c.settle.new.unmet)
     c.in_ok-settle.ensures.at_work r m e)
 
 pub returns-clause-solved : goal.returns-clause-solved
