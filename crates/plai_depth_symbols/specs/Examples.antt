@@ -1,4 +1,4 @@
--- A program for an example: numbers made of `0` and `s` (Muthukumar and Hermenegildo 1992, for such programs).
+-- A program for an example: numbers made of `0` and `s` (Sato and Tamaki 1984).
 use Rattle.std.specs.Prelude.{[], ◌∷◌, pos, codes}
 use Rattle.plai_terms.specs.declared.term.Term.{Var, Int}
 use Rattle.plai_terms.specs.declared.pred_key.PredKey.{PredKey}
