@@ -7,3 +7,4 @@ pub mod LogRows
 pub mod Shown
 pub mod Causes
 pub mod Outcomes
+pub mod Worked

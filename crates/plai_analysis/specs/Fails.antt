@@ -8,3 +8,8 @@ abbrev pub fail_of : SolveFail → AnalyseFail
 fail_of solve_fail.Memory = analyse_fail.Memory
 fail_of (solve_fail.Rows limit) = analyse_fail.Rows limit
 fail_of (solve_fail.Groups row clause literal place) = analyse_fail.Groups row clause literal place
+
+abbrev pub stop_of : AnalyseFail → SolveFail
+stop_of analyse_fail.Memory = solve_fail.Memory
+stop_of (analyse_fail.Rows limit) = solve_fail.Rows limit
+stop_of (analyse_fail.Groups row clause literal place) = solve_fail.Groups row clause literal place

@@ -3,3 +3,4 @@ pub mod Reached
 pub mod Gathering
 pub mod Output
 pub mod Fails
+pub mod Work

@@ -1,9 +1,10 @@
 //! The analysis of a program by legal work.
-ghost use Rattle.std.specs.Prelude.{◌≡◌, IfOk, IfErr, OnOk};
+ghost use Rattle.std.specs.Prelude.{◌≡◌, ◌-◌, IfOk, IfErr, OnOk};
 ghost use Rattle.plai_eval.specs.Stops.{IsOver};
 ghost use Rattle.plai_rounds.specs.Causes.{HasCause};
 ghost use Rattle.plai_rounds.specs.Table.{IsTextTable};
 ghost use Rattle.plai_analysis.specs.Fails.{fail_of};
+ghost use Rattle.plai_analysis.specs.Work.{HasEnded, HasStopped};
 
 use crate::table::table_of_work;
 use plai_arcs::Arcs;
@@ -45,6 +46,10 @@ fn fail_of(fail: SolveFail) -> AnalyseFail
 /// `Rows` names the limit, and comes only where more names than the limit are asked for, each at or below a name of the least
 /// table of the same predicate; so a table has at most as many rows as the limit says. `Groups` comes only where an evaluation
 /// of the program forms a set of more than 65,536 groups, names such an evaluation, and a table comes only where none does.
+///
+/// What is noted is a legal log, and it ends where there is a table. At `Rows` as many rows are live behind it as the limit
+/// says, no pair of one is dirty, no growth is due, and a further name is demanded. An evaluation takes as many steps as its
+/// clause costs, and one for the join.
 pub fn analyse<D: Domain, W: Work, L: Ledger>(
     alloc: Global,
     domain: &D,
@@ -56,6 +61,8 @@ pub fn analyse<D: Domain, W: Work, L: Ledger>(
     ensures table { IfOk result (IsTextTable (D.plain domain.now) program.now limit) }
     ensures not_over { OnOk result (¬ IsOver (D.plain domain.now) program.now) }
     ensures causes { IfErr result (HasCause (D.plain domain.now) program.now limit) }
+    ensures work { OnOk result (HasEnded (D.plain domain.now) program.now limit (W.entries work.old) (W.entries work.new) (steps.new - steps.old)) }
+    ensures stopped { IfErr result (HasStopped (D.plain domain.now) program.now limit (W.entries work.old) (W.entries work.new) (steps.new - steps.old)) }
 {
     program.is_program();
     let mut table = Table::new(alloc)?;
