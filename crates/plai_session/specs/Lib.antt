@@ -1,3 +1,4 @@
 pub mod Programs
 pub mod Sessions
 pub mod Codes
+pub mod Work

@@ -1,6 +1,7 @@
 //! The analysis of the program behind an edit.
-ghost use Rattle.std.specs.Prelude.{IfOk};
+ghost use Rattle.std.specs.Prelude.{◌-◌, IfOk, OnErr};
 ghost use Rattle.plai_session.specs.Sessions.{IsAnalysed};
+ghost use Rattle.plai_session.specs.Work.{IsWorkOf, IsCutOff};
 
 use crate::answer::EditAnswer;
 use plai_analysis::analyse;
@@ -19,7 +20,8 @@ pub struct Analysed {
     pub answer: EditAnswer,
 }
 
-/// Analyses the program from no row at all, as the work of the edit of this number.
+/// Analyses the program from no row at all, as the work of the edit of this number: its mark is noted, and a legal log behind
+/// it.
 pub fn analyse_anew<D: Domain, W: Work, L: Ledger>(
     alloc: Global,
     domain: &D,
@@ -29,7 +31,9 @@ pub fn analyse_anew<D: Domain, W: Work, L: Ledger>(
     work: &mut W,
     steps: &mut Steps<L>,
 ) -> Result<Analysed, AllocError>
-    ensures { IfOk result (λ analysed. IsAnalysed (D.plain domain.now) limit program.now analysed.table analysed.answer) }
+    ensures answer { IfOk result (λ analysed. IsAnalysed (D.plain domain.now) limit program.now analysed.table analysed.answer) }
+    ensures work { IfOk result (λ analysed. IsWorkOf (D.plain domain.now) limit program.now number (W.entries work.old) (W.entries work.new) (steps.new - steps.old) analysed.answer) }
+    ensures cut_off { OnErr result (IsCutOff (D.plain domain.now) limit program.now number (W.entries work.old) (W.entries work.new)) }
 {
     work.note(alloc, &WorkEntry::Mark(number))?;
     match analyse(alloc, domain, program, limit, work, steps) {

@@ -1,7 +1,9 @@
 //! Sessions.
-ghost use Rattle.std.specs.Prelude.{◌≡◌, true, false, IfOk, IfSome, OnOk, OnErr, option_map};
+ghost use Rattle.std.specs.Prelude.{◌≡◌, ◌⊎◌, ◌-◌, true, false, Ok, IfOk, IfSome, OnOk, OnErr, option_map};
+ghost use Rattle.plai_clauses.specs.Program.{ProgramView};
 ghost use Rattle.plai_script.specs.Edits.{edited};
 ghost use Rattle.plai_script.specs.Readable.{IsReadableEdit};
+ghost use Rattle.plai_session.specs.Work.{IsWorkOf, IsCutOff};
 ghost use Rattle.plai_session.specs.Sessions.{IsTableOf, IsAnalysed, IsEdited, IsLost, IsRefusal};
 
 use crate::analysis::{Analysed, analyse_anew};
@@ -52,6 +54,8 @@ impl<D: Domain> Session<D> {
     ) -> Result<(Session<D>, EditAnswer), AllocError>
         ensures begun { IfOk result (λ opened. (opened.0.domain ≡ domain) × (opened.0.limit ≡ limit) × (opened.0.program ≡ program) × (opened.0.lost ≡ false)) }
         ensures answer { IfOk result (λ opened. IsAnalysed (D.plain domain) limit program opened.0.table opened.1) }
+        ensures work { IfOk result (λ opened. IsWorkOf (D.plain domain) limit program 0 (W.entries work.old) (W.entries work.new) (steps.new - steps.old) opened.1) }
+        ensures cut_off { OnErr result (IsCutOff (D.plain domain) limit program 0 (W.entries work.old) (W.entries work.new)) }
     {
         let Analysed { table, answer } = analyse_anew(
             alloc, &domain, &program, limit, 0, work, steps,
@@ -85,6 +89,10 @@ impl<D: Domain> Session<D> {
         ensures answer { IfOk result (λ answer. IsEdited (D.plain self.old.domain) self.old self.new answer (edited self.old.program edit.now)) }
         ensures memory { OnErr result (IsLost self.old self.new) }
         ensures lost { self.old.lost ≡ true → OnOk result ⊥ }
+        ensures work { IfOk result (λ answer. (program : ProgramView) → edited self.old.program edit.now ≡ Ok program
+            → IsWorkOf (D.plain self.old.domain) self.old.limit program number (W.entries work.old) (W.entries work.new) (steps.new - steps.old) answer) }
+        ensures cut_off { OnErr result ((W.entries work.new ≡ W.entries work.old) ⊎ ((program : ProgramView) × (edited self.old.program edit.now ≡ Ok program)
+            × IsCutOff (D.plain self.old.domain) self.old.limit program number (W.entries work.old) (W.entries work.new))) }
         ensures noted { IfOk result (λ answer. IsRefusal answer → W.entries work.new ≡ W.entries work.old) }
         ensures steps { IfOk result (λ answer. IsRefusal answer → steps.new ≡ steps.old) }
     {
@@ -113,6 +121,8 @@ impl<D: Domain> Session<D> {
         requires { self.old.lost ≡ false }
         ensures answer { IfOk result (λ answer. (self.new.program ≡ program) × (self.new.domain ≡ self.old.domain) × (self.new.limit ≡ self.old.limit) × (self.new.lost ≡ false)
             × IsAnalysed (D.plain self.old.domain) self.old.limit program self.new.table answer) }
+        ensures work { IfOk result (IsWorkOf (D.plain self.old.domain) self.old.limit program number (W.entries work.old) (W.entries work.new) (steps.new - steps.old)) }
+        ensures cut_off { OnErr result (IsCutOff (D.plain self.old.domain) self.old.limit program number (W.entries work.old) (W.entries work.new)) }
         ensures memory { OnErr result (IsLost self.old self.new) }
     {
         match analyse_anew(

@@ -1,0 +1,26 @@
+-- What is told of the work behind an edit (Hermenegildo, Puebla, Marriott and Stuckey 2000).
+use Rattle.std.specs.Prelude.{◌≡◌, ◌⊎◌, ℕ, List, Option}
+use Rattle.plai_domain.specs.declared.work.WorkEntry.{WorkEntry}
+use Rattle.plai_domain.specs.declared.work.WorkEntry.TheVariants.{Mark}
+use Rattle.plai_domain.specs.Noted.{noted}
+use Rattle.plai_domain.specs.Plain.{PlainDomain}
+use Rattle.plai_clauses.specs.Program.{ProgramView}
+use Rattle.plai_rounds.specs.declared.analyse_fail.AnalyseFail.TheVariants as analyse_fail
+use Rattle.plai_analysis.specs.Work.{HasEnded, HasStopped}
+use Rattle.plai_session.specs.declared.answer.EditAnswer.{EditAnswer}
+use Rattle.plai_session.specs.declared.answer.EditAnswer.TheVariants.{Table, Refused, StoppedRows, StoppedGroups}
+
+-- The work begins with the mark of this number. Behind it a legal log is told, which ends where there is a table, or stops so.
+-- So many steps are within its cost.
+abbrev pub IsWorkOf : PlainDomain → ℕ → ProgramView → ℕ → Option (List WorkEntry) → Option (List WorkEntry) → ℕ → EditAnswer → Type 0
+IsWorkOf p limit program number before after steps Table = HasEnded p program limit (noted (Mark number) before) after steps
+IsWorkOf p limit program number before after steps (Refused cause) = ⊥
+IsWorkOf p limit program number before after steps (StoppedRows most) =
+    HasStopped p program limit (noted (Mark number) before) after steps (analyse_fail.Rows most)
+IsWorkOf p limit program number before after steps (StoppedGroups row clause literal place) =
+    HasStopped p program limit (noted (Mark number) before) after steps (analyse_fail.Groups row clause literal place)
+
+-- want of memory cut the work off: it did not begin, or a legal log is told behind the mark
+abbrev pub IsCutOff : PlainDomain → ℕ → ProgramView → ℕ → Option (List WorkEntry) → Option (List WorkEntry) → Type 0
+IsCutOff p limit program number before after =
+    (after ≡ before) ⊎ HasStopped p program limit (noted (Mark number) before) after 0 analyse_fail.Memory
