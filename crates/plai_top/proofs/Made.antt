@@ -9,10 +9,10 @@ use Rattle.plai_script.specs.declared.edit.Edit.{Edit}
 use Rattle.plai_session.specs.Programs.{behind}
 use Rattle.plai_words.specs.declared.types.Settings.{Settings}
 use Rattle.plai_top.specs.Blocks.{Block}
-use Rattle.plai_top.specs.Commands.{IsCommand, IsMake}
-use Rattle.plai_top.specs.Ending.{IsFaultOrComes, EndsByEach, EndsMade}
+use Rattle.plai_top.specs.Commands.{AskForMade, IsCommand, IsMake}
+use Rattle.plai_top.specs.Ending.{IsFaultOrComes, EndsByEach, EndsMade, IsMadeStatus}
 use Rattle.plai_top.specs.Outcome.{Outcome, silent, done, IsByWords, by_make, blocks, AreBlocks, IsMadeOutcome, IsOutcome, OutcomeIsOne, AreOne}
-use Rattle.plai_top.specs.Plans.{IsMadePlan, KeepsMade, CarriesOut, IsPlanStop}
+use Rattle.plai_top.specs.Plans.{IsMadePlan, KeepsMade, CarriesOut, IsPlanStatus, IsPlanStop}
 use Rattle.plai_top.specs.Stops.{status_of}
 use Rattle.plai_top.specs.Tasks.{domain_of, form_of, task_of}
 use Rattle.plai_top.specs.declared.plan.Plan.{Plan}
@@ -87,6 +87,20 @@ module _ (words : List (List ℕ)) (one : OutcomeIsOne) where
 
   pub stopped_made : (taken : Option (List ℕ)) (stop : Stop) → KeepsMade words (Err stop) → EndsMade words (status_of stop) taken taken
   stopped_made taken stop keeps settings count make = made_stopped words settings count make one taken stop (keeps settings count make)
+
+-- ---- the status
+
+pub plan_made_status : (words : List (List ℕ)) (plan : Plan) (status : ℕ) → KeepsMade words (Ok plan) → IsPlanStatus plan status → AskForMade words → IsMadeStatus status
+plan_made_status words (Line bytes) status keeps is (settings, count, make) = absurd (keeps settings count make)
+plan_made_status words (Blocks task program items) status keeps (inl none) asked = inl none
+plan_made_status words (Blocks task program items) status keeps (inr one) asked = inr (inl one)
+
+pub cut_made_status : (stop : Stop) → IsPlanStop stop → IsMadeStatus (status_of stop)
+cut_made_status stop (inl fault) = inr (inr (inl (ap status_of fault)))
+cut_made_status stop (inr memory) = inr (inr (inr (ap status_of memory)))
+
+pub stopped_made_status : (words : List (List ℕ)) (stop : Stop) → KeepsMade words (Err stop) → AskForMade words → IsMadeStatus (status_of stop)
+stopped_made_status words stop keeps (settings, count, make) = inr (inr (inr (ap status_of (keeps settings count make))))
 
 -- ---- a plan
 

@@ -62,3 +62,7 @@ IsBeforeWork result = IsSilent result ⊎ (result ≡ 3)
 -- the statuses
 abbrev pub IsStatus : ℕ → Type 0
 IsStatus result = (result ≡ 0) ⊎ (result ≡ 1) ⊎ (result ≡ 2) ⊎ (result ≡ 3) ⊎ (result ≡ 4) ⊎ IsFault result
+
+-- the statuses of a call for a made program, which reads nothing: all was done, or a write failed or memory ran out
+abbrev pub IsMadeStatus : ℕ → Type 0
+IsMadeStatus result = (result ≡ 0) ⊎ (result ≡ 1) ⊎ (result ≡ 6) ⊎ (result ≡ 7)

@@ -4,7 +4,7 @@ ghost use Rattle.std.specs.Io.KnownBytes.{Keeps, IsAtEnd};
 ghost use Rattle.plai_base.specs.Causes.{Rose};
 ghost use Rattle.plai_words.specs.Command.{settings_of, texts};
 ghost use Rattle.plai_top.specs.Commands.{AskForMade};
-ghost use Rattle.plai_top.specs.Ending.{IsFaultOrComes, EndsByEach, EndsMade, EndsByWords, EndsEarly, IsSilent, IsBeforeWork, IsStatus};
+ghost use Rattle.plai_top.specs.Ending.{IsFaultOrComes, EndsByEach, EndsMade, EndsByWords, EndsEarly, IsSilent, IsBeforeWork, IsStatus, IsMadeStatus};
 ghost use Rattle.plai_top.specs.Headline.{TakesPromised};
 ghost use Rattle.plai_top.specs.Outcome.{Outcome, IsByWords, IsEarly, IsOutcome, OutcomeIsOne};
 ghost use Rattle.plai_top.specs.Plans.{IsFitPlan, HasAnalysis, CarriesOut, IsPlanStatus, IsPlanStop};
@@ -97,6 +97,7 @@ pub fn run<B: Library, S: Source, K: Sink, W: Work, L: Ledger>(
 
     // Words that ask for a made program have an outcome that depends on nothing else, and nothing is read.
     ensures made { EndsMade (texts words.now) result (K.taken sink.old) (K.taken sink.new) }
+    ensures made_status { AskForMade (texts words.now) → IsMadeStatus result }
     ensures unread_made { AskForMade (texts words.now) → (B.faults library.new ≡ B.faults library.old)
         × (S.left script.new ≡ S.left script.old) × (S.faults script.new ≡ S.faults script.old) }
 

@@ -1,11 +1,11 @@
 use Rattle.std.proofs.Common.{◌≡◌, ◌⊎◌, IfSome, sym, subst}
 use Rattle.plai_base.specs.Causes.{Rose}
 use Rattle.plai_words.specs.Command.{texts}
-use Rattle.plai_top.specs.Ending.{EndsEarly, EndsMade}
+use Rattle.plai_top.specs.Ending.{EndsEarly, EndsMade, IsMadeStatus}
 use Rattle.plai_top.specs.Headline.{TakesPromised}
 use Rattle.plai_top.specs.Told.{IfBothTold}
 use Rattle.plai_top.proofs.Endings.{plan_whole, plan_every, plan_early, cut_whole, cut_every, cut_early, stopped_whole, stopped_every, stopped_early}
-use Rattle.plai_top.proofs.Made.{plan_made, cut_made, stopped_made}
+use Rattle.plai_top.proofs.Made.{plan_made, cut_made, stopped_made, plan_made_status, cut_made_status, stopped_made_status}
 use Rattle.plai_top.proofs.Headline.{plan_promised, stop_promises}
 use Rattle.plai_top.proofs.top.run.Goals as goal
 
@@ -65,3 +65,15 @@ returns-in-Err-clause-early g c =
     let Failed = Rose (g.B.Library.faults c.args.library.now) (g.B.Library.faults c.planned.new.library) in
     subst (λ n. IfSome told (λ files. EndsEarly (texts c.args.words.now) files n taken taken Failed)) (sym c.status-in-Err.ensures)
     (stopped_early (texts c.args.words.now) Failed told c.in-Err.stop taken c.in-Err.ensures.early)
+
+pub returns-in-Ok-carry_out-clause-made_status : goal.returns-in-Ok-carry_out-clause-made_status
+returns-in-Ok-carry_out-clause-made_status g c = λ asked.
+    plan_made_status (texts c.args.words.now) c.in-Ok.plan c.in-Ok-carry_out.status c.in-Ok.ensures.made c.in-Ok-carry_out.ensures.status asked
+
+pub returns-in-Err-carry_out-clause-made_status : goal.returns-in-Err-carry_out-clause-made_status
+returns-in-Err-carry_out-clause-made_status g c = λ asked.
+    subst IsMadeStatus (sym c.status.ensures) (cut_made_status c.in-Err-carry_out.stop c.in-Err-carry_out.ensures.stop)
+
+pub returns-in-Err-clause-made_status : goal.returns-in-Err-clause-made_status
+returns-in-Err-clause-made_status g c = λ asked.
+    subst IsMadeStatus (sym c.status-in-Err.ensures) (stopped_made_status (texts c.args.words.now) c.in-Err.stop c.in-Err.ensures.made asked)
