@@ -90,13 +90,13 @@ module _ (words : List (List ℕ)) (files : TextMap) (script : List ℕ) where
 
     module _ (one : OutcomeIsOne) where
       carried_each : (plan : Plan) (status : ℕ) → IsPlan words files script plan → CarriesOut before after plan (Ok status)
-          → EndsByEach (IsOutcome words files script) status before after
+          → EndsByEach words (IsOutcome words files script) status before after
       carried_each plan status is carried outcome has =
           let (other, also, comes) = carried_comes plan status is carried in
           (other, also, one words files script outcome other has also, inl comes)
 
       cut_each : (plan : Plan) (stop : Stop) → IsPlan words files script plan → IsFitPlan plan → CarriesOut before after plan (Err stop)
-          → EndsByEach (IsOutcome words files script) (status_of stop) before after
+          → EndsByEach words (IsOutcome words files script) (status_of stop) before after
       cut_each (Line bytes) stop is some (fault, first) outcome has =
           (line bytes.items, is, one words files script outcome (line bytes.items) has is, inr (inr (inl (ap status_of fault, some, first))))
       cut_each (Blocks task program items) stop (settings, same, asked) fit cut outcome is =
@@ -110,7 +110,7 @@ module _ (words : List (List ℕ)) (files : TextMap) (script : List ℕ) where
   -- ---- a stop before there is a plan
 
   stop_each : (one : OutcomeIsOne) (taken : Option (List ℕ)) (stop : Stop) → IsReadEnd stop ⊎ IsOutcome words files script (silent (status_of stop))
-      → EndsByEach (IsOutcome words files script) (status_of stop) taken taken
+      → EndsByEach words (IsOutcome words files script) (status_of stop) taken taken
   stop_each one taken stop (inl (inl fault)) outcome has = (outcome, has, inl refl, inr (inl (ap status_of fault, all_kept taken)))
   stop_each one taken stop (inl (inr memory)) outcome has = (outcome, has, inl refl, inr (inr (inr (ap status_of memory, (0, nothing_appended taken)))))
   stop_each one taken stop (inr is) outcome has =
@@ -132,7 +132,7 @@ module _ (words : List (List ℕ)) (before after : Option (List ℕ)) (plan : Pl
   plan_whole (Some files) (Some text) status is carried = inr (carried_comes words files text before after plan status is carried)
 
   pub plan_every : (one : OutcomeIsOne) (told : Option TextMap) (left : Option (List ℕ)) (status : ℕ) → IfBothTold told left (λ files text. IsPlan words files text plan)
-      → CarriesOut before after plan (Ok status) → IfBothTold told left (λ files text. EndsByEach (IsOutcome words files text) status before after)
+      → CarriesOut before after plan (Ok status) → IfBothTold told left (λ files text. EndsByEach words (IsOutcome words files text) status before after)
   plan_every one None left status is carried = tt
   plan_every one (Some files) None status is carried = tt
   plan_every one (Some files) (Some text) status is carried = carried_each words files text before after one plan status is carried
@@ -145,7 +145,8 @@ module _ (words : List (List ℕ)) (before after : Option (List ℕ)) (plan : Pl
   cut_whole (Some files) (Some text) stop (inr memory) = inl (inr (inr (ap status_of memory)))
 
   pub cut_every : (one : OutcomeIsOne) (told : Option TextMap) (left : Option (List ℕ)) (stop : Stop) → IfBothTold told left (λ files text. IsPlan words files text plan)
-      → IsFitPlan plan → CarriesOut before after plan (Err stop) → IfBothTold told left (λ files text. EndsByEach (IsOutcome words files text) (status_of stop) before after)
+      → IsFitPlan plan → CarriesOut before after plan (Err stop)
+      → IfBothTold told left (λ files text. EndsByEach words (IsOutcome words files text) (status_of stop) before after)
   cut_every one None left stop is fit carried = tt
   cut_every one (Some files) None stop is fit carried = tt
   cut_every one (Some files) (Some text) stop is fit carried = cut_each words files text before after one plan stop is fit carried
@@ -159,7 +160,7 @@ module _ (words : List (List ℕ)) (taken : Option (List ℕ)) (stop : Stop) whe
 
   pub stopped_every : (one : OutcomeIsOne) (told : Option TextMap) (left : Option (List ℕ))
       → IfBothTold told left (λ files text. IsReadEnd stop ⊎ IsOutcome words files text (silent (status_of stop)))
-      → IfBothTold told left (λ files text. EndsByEach (IsOutcome words files text) (status_of stop) taken taken)
+      → IfBothTold told left (λ files text. EndsByEach words (IsOutcome words files text) (status_of stop) taken taken)
   stopped_every one None left ends = tt
   stopped_every one (Some files) None ends = tt
   stopped_every one (Some files) (Some text) ends = stop_each words files text one taken stop ends

@@ -31,7 +31,7 @@ module _ (words : List (List ℕ)) (settings : Settings) (count : ℕ) (make : I
   is_outcome outcome (them, are, is) =
       subst (IsOutcome words no_files []) (sym is) (blocks settings (made_program count) (made_edits count) them (by_make count make) are)
 
-  made_is_one : (first second : Outcome) → IsMadeOutcome settings count first → IsMadeOutcome settings count second → AreOne first second
+  made_is_one : (first second : Outcome) → IsMadeOutcome settings count first → IsMadeOutcome settings count second → AreOne words first second
   made_is_one first second a b = one words no_files [] first second (is_outcome first a) (is_outcome second b)
 
   -- the plan is carried out as one of settings
@@ -45,7 +45,7 @@ module _ (words : List (List ℕ)) (settings : Settings) (count : ℕ) (make : I
         (subst (λ t. Carries before after result t program items.items) is_task carried))
 
     made_ends : (plan : Plan) (status : ℕ) → IsMadePlan settings count plan → CarriesOut before after plan (Ok status)
-        → IsFaultOrComes (IsMadeOutcome settings count) status before after × EndsByEach (IsMadeOutcome settings count) status before after
+        → IsFaultOrComes (IsMadeOutcome settings count) status before after × EndsByEach words (IsMadeOutcome settings count) status before after
     made_ends plan status is carried =
         let own = own_work plan (Ok status) is carried in
         let outcome : Outcome = done (form_of settings) own.blocks in
@@ -53,7 +53,8 @@ module _ (words : List (List ℕ)) (settings : Settings) (count : ℕ) (make : I
         (inr (outcome, has, (own.is_status, own.bytes)), λ other too. (outcome, has, made_is_one other outcome too has, inl (own.is_status, own.bytes)))
 
     made_cut : (plan : Plan) (stop : Stop) → IsMadePlan settings count plan → IsPlanStop stop → CarriesOut before after plan (Err stop)
-        → IsFaultOrComes (IsMadeOutcome settings count) (status_of stop) before after × EndsByEach (IsMadeOutcome settings count) (status_of stop) before after
+        → IsFaultOrComes (IsMadeOutcome settings count) (status_of stop) before after
+        × EndsByEach words (IsMadeOutcome settings count) (status_of stop) before after
     made_cut plan stop is which carried = (
       inl (elim which [
         | inl fault ↦ inr (inl (ap status_of fault))
@@ -68,7 +69,8 @@ module _ (words : List (List ℕ)) (settings : Settings) (count : ℕ) (make : I
     )
 
   made_stopped : (taken : Option (List ℕ)) (stop : Stop) → stop ≡ Memory
-      → IsFaultOrComes (IsMadeOutcome settings count) (status_of stop) taken taken × EndsByEach (IsMadeOutcome settings count) (status_of stop) taken taken
+      → IsFaultOrComes (IsMadeOutcome settings count) (status_of stop) taken taken
+      × EndsByEach words (IsMadeOutcome settings count) (status_of stop) taken taken
   made_stopped taken stop memory = (
     inl (inr (inr (ap status_of memory))),
     λ other too. (other, too, inl refl, inr (inr (inr (ap status_of memory, (0, nothing_appended taken))))),

@@ -2,8 +2,10 @@
 use Rattle.std.proofs.Common.{◌≡◌, ◌≤◌, ◌⊎◌, ℕ, List, ◌∷◌, Bool, Option, None, Some, is_none, Result, Ok, Err, true, false, length, refl, sym, ◌∙◌, ap, subst, arith, inl, inr}
 use Rattle.plai_base.specs.Texts.{TextMap, text_of, longest_text}
 use Rattle.plai_terms.specs.declared.plain_row.PlainRow.{PlainRow}
+use Rattle.plai_domain.specs.Plain.{PlainDomain}
 use Rattle.plai_clauses.specs.Program.{ProgramView}
 use Rattle.plai_clauses.specs.declared.edit_cause.EditCause.{EditCause}
+use Rattle.plai_assert.specs.Verdicts.{verdicts_of}
 use Rattle.plai_eval.specs.LeastTable.{IsLeastTable}
 use Rattle.plai_modules.specs.Loading.{Refusal, loaded}
 use Rattle.plai_script.specs.Scripts.{ScriptRefusal, script_of}
@@ -14,7 +16,7 @@ use Rattle.plai_words.specs.declared.types.Settings.{Settings}
 use Rattle.plai_make.specs.Programs.{made_program, made_edits}
 use Rattle.plai_top.specs.Commands.{most_files, is_over_files, IsCommand, IsMake}
 use Rattle.plai_top.specs.Files.{texts_of, IsSomeLong, HasFiles, HasProgram, HasRefusal}
-use Rattle.plai_top.specs.Blocks.{Block, table_of, AreBlocksOf, no_more, one_more, IsBlockOf, is_table_of, many_rows, large_sets, is_refused, AreSameUpToStops, none_left, same_block, stop_before, stop_behind}
+use Rattle.plai_top.specs.Blocks.{Block, table_of, stopped, AreBlocksOf, no_more, one_more, IsBlockOf, is_table_of, many_rows, large_sets, is_refused, by_rows, by_groups, IsTableOrStop, is_within, is_stop, AreSameUpToStops, none_left, same_block, stop_before, stop_behind}
 use Rattle.plai_top.specs.Outcome.{Outcome, line, done, refused_by, IsByWords, no_command, too_many, IsEarly, by_words, too_long, refused, longest_script, IsByScript, script_too_long, script_refused, HasEdits, AreBlocks, IsAsked, by_files, by_make, IsOutcome, early, by_script, blocks, OutcomeIsOne}
 use Rattle.plai_top.specs.Refusal.{script_refusal_text}
 use Rattle.plai_top.specs.Tasks.{domain_of, form_of, task_of}
@@ -185,27 +187,46 @@ module _ (words : List (List ℕ)) (files : TextMap) (script : List ℕ) where
       let with_program : AreBlocks settings program others them = subst (λ x. AreBlocks settings x others them) p with_settings in
       (them, subst (λ x. AreBlocks settings program x them) i with_program, ap (λ x. done (form_of x) them) s)
 
+  -- it is asked for with the settings of the words
+  asked_formed : (settings : Settings) (program : ProgramView) (items : List (Result Edit EditCause)) → IsAsked words files script settings program items
+      → settings_of words ≡ Some settings
+  asked_formed settings program items (by_files _ _ loaded has) = loaded.given.command.formed
+  asked_formed settings program items (by_make count make) = make.formed
+
+-- the block of an analysis shows a table or a stop
+analysed_block : (p : PlainDomain) (limit : ℕ) (program : ProgramView) (block : Block) → IsBlockOf p limit (Ok program) block → IsTableOrStop limit block
+analysed_block p limit program block (is_table_of _ rows least within not_over) = is_within rows program.checks (verdicts_of p rows program.checks) within
+analysed_block p limit program block (many_rows _ more) = is_stop (stopped (Some limit)) by_rows
+analysed_block p limit program block (large_sets _ over) = is_stop (stopped None) by_groups
+
 module _ (table_one : (task : Task) (program : ProgramView) (rows others : List PlainRow) → IsLeastTable (domain_of task) program rows
     → IsLeastTable (domain_of task) program others → rows ≡ others) where
-  same_table : (task : Task) (program : ProgramView) (rows others : List PlainRow) (rest also : List Block) → IsLeastTable (domain_of task) program rows
-      → IsLeastTable (domain_of task) program others → AreSameUpToStops rest also → AreSameUpToStops (table_of (domain_of task) program rows ∷ rest) (table_of (domain_of task) program others ∷ also)
-  same_table task program rows others rest also least too are =
-      subst (λ x. AreSameUpToStops (table_of (domain_of task) program rows ∷ rest) (table_of (domain_of task) program x ∷ also)) (table_one task program rows others least too)
-      (same_block (table_of (domain_of task) program rows) rest also are)
+  same_table : (task : Task) (limit : ℕ) (program : ProgramView) (rows others : List PlainRow) (rest also : List Block)
+      → IsLeastTable (domain_of task) program rows → IsLeastTable (domain_of task) program others → AreSameUpToStops limit rest also
+      → AreSameUpToStops limit (table_of (domain_of task) program rows ∷ rest) (table_of (domain_of task) program others ∷ also)
+  same_table task limit program rows others rest also least too are =
+      let own : Block = table_of (domain_of task) program rows in
+      subst (λ x. AreSameUpToStops limit (own ∷ rest) (table_of (domain_of task) program x ∷ also)) (table_one task program rows others least too)
+      (same_block own rest also are)
 
   -- two blocks of the same are the same, or one is a stop
-  one_block : (task : Task) (limit : ℕ) (given : Result ProgramView EditCause) (block other : Block) (rest also : List Block) → IsBlockOf (domain_of task) limit given block
-      → IsBlockOf (domain_of task) limit given other → AreSameUpToStops rest also → AreSameUpToStops (block ∷ rest) (other ∷ also)
+  one_block : (task : Task) (limit : ℕ) (given : Result ProgramView EditCause) (block other : Block) (rest also : List Block)
+      → IsBlockOf (domain_of task) limit given block → IsBlockOf (domain_of task) limit given other → AreSameUpToStops limit rest also
+      → AreSameUpToStops limit (block ∷ rest) (other ∷ also)
   one_block task limit given block other rest also (is_table_of program rows least within not_over) (is_table_of _ others too kept neither) are =
-      same_table task program rows others rest also least too are
-  one_block task limit given block other rest also (is_table_of program rows least within not_over) (many_rows _ more) are = stop_behind (Some limit) block rest also are
-  one_block task limit given block other rest also (is_table_of program rows least within not_over) (large_sets _ over) are = stop_behind None block rest also are
-  one_block task limit given block other rest also (many_rows program more) two are = stop_before (Some limit) other rest also are
-  one_block task limit given block other rest also (large_sets program over) two are = stop_before None other rest also are
+      same_table task limit program rows others rest also least too are
+  one_block task limit given block other rest also (is_table_of program rows least within not_over) (many_rows _ more) are =
+      stop_behind (stopped (Some limit)) block rest also by_rows (is_within rows program.checks (verdicts_of (domain_of task) rows program.checks) within) are
+  one_block task limit given block other rest also (is_table_of program rows least within not_over) (large_sets _ over) are =
+      stop_behind (stopped None) block rest also by_groups (is_within rows program.checks (verdicts_of (domain_of task) rows program.checks) within) are
+  one_block task limit given block other rest also (many_rows program more) two are =
+      stop_before (stopped (Some limit)) other rest also by_rows (analysed_block (domain_of task) limit program other two) are
+  one_block task limit given block other rest also (large_sets program over) two are =
+      stop_before (stopped None) other rest also by_groups (analysed_block (domain_of task) limit program other two) are
   one_block task limit given block other rest also (is_refused cause) (is_refused _) are = same_block block rest also are
 
-  all_blocks : (task : Task) (limit : ℕ) (givens : List (Result ProgramView EditCause)) (them others : List Block) → AreBlocksOf (domain_of task) limit givens them
-      → AreBlocksOf (domain_of task) limit givens others → AreSameUpToStops them others
+  all_blocks : (task : Task) (limit : ℕ) (givens : List (Result ProgramView EditCause)) (them others : List Block)
+      → AreBlocksOf (domain_of task) limit givens them → AreBlocksOf (domain_of task) limit givens others → AreSameUpToStops limit them others
   all_blocks task limit givens them others no_more no_more = none_left
   all_blocks task limit givens them others (one_more given block rest own is are) (one_more _ other _ theirs also too) =
       one_block task limit given block other own theirs is also (all_blocks task limit rest own theirs are too)
@@ -221,4 +242,12 @@ module _ (table_one : (task : Task) (program : ProgramView) (rows others : List 
       absurd (asked_not_by_script words files script t s other program items asked loaded first one)
   one_outcome words files script first second (blocks s program items them asked are) two =
       let (others, too, same) = outcome_blocks words files script s program items asked second two in
-      inr (form_of s, them, others, refl, same, all_blocks (task_of s) s.rows (Ok program ∷ behind program items) them others are too)
+      inr (record {
+        settings = s;
+        formed = asked_formed words files script s program items asked;
+        first_blocks = them;
+        second_blocks = others;
+        is_first = refl;
+        is_second = same;
+        same = all_blocks (task_of s) s.rows (Ok program ∷ behind program items) them others are too;
+      })

@@ -79,9 +79,21 @@ pub data AreBlocksOf (p : PlainDomain) (limit : ℕ) : List (Result ProgramView 
   one_more : (given : Result ProgramView EditCause) (block : Block) (others : List (Result ProgramView EditCause)) (blocks : List Block)
       → IsBlockOf p limit given block → AreBlocksOf p limit others blocks → AreBlocksOf p limit (given ∷ others) (block ∷ blocks)
 
--- the same blocks, but that a stop may stand in the place of a block
-pub data AreSameUpToStops : List Block → List Block → Type 0 where
-  none_left : AreSameUpToStops [] []
-  same_block : (block : Block) (blocks others : List Block) → AreSameUpToStops blocks others → AreSameUpToStops (block ∷ blocks) (block ∷ others)
-  stop_before : (limit : Option ℕ) (block : Block) (blocks others : List Block) → AreSameUpToStops blocks others → AreSameUpToStops (stopped limit ∷ blocks) (block ∷ others)
-  stop_behind : (limit : Option ℕ) (block : Block) (blocks others : List Block) → AreSameUpToStops blocks others → AreSameUpToStops (block ∷ blocks) (stopped limit ∷ others)
+-- a stop, by that many rows or by groups
+pub data IsStop (limit : ℕ) : Block → Type 0 where
+  by_rows : IsStop limit (stopped (Some limit))
+  by_groups : IsStop limit (stopped None)
+
+-- a table of no more rows than that, or a stop
+pub data IsTableOrStop (limit : ℕ) : Block → Type 0 where
+  is_within : (rows : List PlainRow) (checks : List Check) (verdicts : List Verdict) → length rows ≤ limit → IsTableOrStop limit (table rows checks verdicts)
+  is_stop : (block : Block) → IsStop limit block → IsTableOrStop limit block
+
+-- the same blocks, but that a stop may stand in the place of a table or of the other stop
+pub data AreSameUpToStops (limit : ℕ) : List Block → List Block → Type 0 where
+  none_left : AreSameUpToStops limit [] []
+  same_block : (block : Block) (blocks others : List Block) → AreSameUpToStops limit blocks others → AreSameUpToStops limit (block ∷ blocks) (block ∷ others)
+  stop_before : (stop block : Block) (blocks others : List Block) → IsStop limit stop → IsTableOrStop limit block → AreSameUpToStops limit blocks others
+      → AreSameUpToStops limit (stop ∷ blocks) (block ∷ others)
+  stop_behind : (stop block : Block) (blocks others : List Block) → IsStop limit stop → IsTableOrStop limit block → AreSameUpToStops limit blocks others
+      → AreSameUpToStops limit (block ∷ blocks) (stop ∷ others)

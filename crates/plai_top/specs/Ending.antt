@@ -33,14 +33,14 @@ abbrev pub IsFaultOrComes : (Outcome → Type 0) → ℕ → Option (List ℕ) �
 IsFaultOrComes Among result before after = IsFault result ⊎ ((outcome : Outcome) × Among outcome × Comes result before after outcome)
 
 -- whichever of these the outcome is, the call ended by it, or by one that differs from it in stops alone
-abbrev pub EndsByEach : (Outcome → Type 0) → ℕ → Option (List ℕ) → Option (List ℕ) → Type 0
-EndsByEach Among result before after =
-    (outcome : Outcome) → Among outcome → (other : Outcome) × Among other × AreOne outcome other × EndsBy result before after other
+abbrev pub EndsByEach : List (List ℕ) → (Outcome → Type 0) → ℕ → Option (List ℕ) → Option (List ℕ) → Type 0
+EndsByEach words Among result before after =
+    (outcome : Outcome) → Among outcome → (other : Outcome) × Among other × AreOne words outcome other × EndsBy result before after other
 
 -- a call for a made program ended by an outcome of that, or by a fault behind a part of it
 abbrev pub EndsMade : List (List ℕ) → ℕ → Option (List ℕ) → Option (List ℕ) → Type 0
 EndsMade words result before after = (settings : Settings) (count : ℕ) → IsMake words settings count
-    → IsFaultOrComes (IsMadeOutcome settings count) result before after × EndsByEach (IsMadeOutcome settings count) result before after
+    → IsFaultOrComes (IsMadeOutcome settings count) result before after × EndsByEach words (IsMadeOutcome settings count) result before after
 
 -- what the words decide came, unless memory ran out
 abbrev pub EndsByWords : List (List ℕ) → ℕ → Type 0

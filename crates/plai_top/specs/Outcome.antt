@@ -93,13 +93,22 @@ abbrev pub IsMadeOutcome : Settings → ℕ → Outcome → Type 0
 IsMadeOutcome settings count outcome =
     (blocks : List Block) × AreBlocks settings (made_program count) (made_edits count) blocks × (outcome ≡ done (form_of settings) blocks)
 
--- the same outcome, but that a stop may stand in the place of a block
-abbrev pub AreOne : Outcome → Outcome → Type 0
-AreOne first second = (first ≡ second)
-    ⊎ ((form : Form) × (blocks : List Block) × (others : List Block) × (first ≡ done form blocks) × (second ≡ done form others) × AreSameUpToStops blocks others)
+-- outcomes of the analysis that the words ask for, whose blocks are the same but for stops
+pub record DifferInStops (words : List (List ℕ)) (first second : Outcome) : Type 0 where
+  pub settings : Settings
+  pub formed : settings_of words ≡ Some settings
+  pub first_blocks : List Block
+  pub second_blocks : List Block
+  pub is_first : first ≡ done (form_of settings) first_blocks
+  pub is_second : second ≡ done (form_of settings) second_blocks
+  pub same : AreSameUpToStops settings.rows first_blocks second_blocks
+
+-- the same outcome, but that a stop may stand in the place of a table or of the other stop
+abbrev pub AreOne : List (List ℕ) → Outcome → Outcome → Type 0
+AreOne words first second = (first ≡ second) ⊎ DifferInStops words first second
 
 -- a call has one outcome, but that a stop may come beside a table or the other stop, where names that are not in the table
 -- were met on the way
 abbrev pub OutcomeIsOne : Type 0
 OutcomeIsOne = (words : List (List ℕ)) (files : TextMap) (script : List ℕ) (first second : Outcome)
-    → IsOutcome words files script first → IsOutcome words files script second → AreOne first second
+    → IsOutcome words files script first → IsOutcome words files script second → AreOne words first second

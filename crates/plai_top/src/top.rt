@@ -21,7 +21,7 @@ use plai_eval::least_table_is_one;
 use std::alloc::Global;
 use std::sync::ledger::Ledger;
 
-/// A law: words, files and a script have one outcome at most, but that a stop may come in the place of a block.
+/// A law: words, files and a script have one outcome at most, but that a stop may come in the place of a table or of the other stop.
 pub fn outcome_is_one()
     ensures { OutcomeIsOne }
 {
@@ -104,7 +104,7 @@ pub fn run<B: Library, S: Source, K: Sink, W: Work, L: Ledger>(
     // Whatever the outcome is, the call ended by it, or by one with stops in the place of some of its blocks: at a fault too no
     // other byte was written.
     ensures every { IfBothTold (B.files library.old) (S.left script.old) (λ files text.
-        EndsByEach (IsOutcome (texts words.now) files text) result (K.taken sink.old) (K.taken sink.new)) }
+        EndsByEach (texts words.now) (IsOutcome (texts words.now) files text) result (K.taken sink.old) (K.taken sink.new)) }
 
     // What the words decide comes before the files, and what the files decide before the script.
     ensures refused { EndsByWords (texts words.now) result }
