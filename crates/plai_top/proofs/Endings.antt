@@ -1,5 +1,5 @@
 -- How a call ends, from what it is to do and what was written.
-use Rattle.std.proofs.Common.{arith, ◌≡◌, ◌≢◌, ◌⊎◌, ℕ, List, [], ◌∷◌, ◌++◌, None, Some, IfSome, Result, Ok, Err, take, refl, sym, ap, ◌∙◌, subst, inl, inr}
+use Rattle.std.proofs.Common.{arith, ◌≡◌, ◌≢◌, ◌⊎◌, ℕ, List, [], ◌∷◌, None, Some, IfSome, Result, Ok, Err, take, refl, sym, ap, ◌∙◌, subst, inl, inr}
 use Rattle.std.proofs.lemmas.List.{append-nil}
 use Rattle.std.specs.Io.KnownBytes.{Appends, Keeps}
 use Rattle.std.specs.declared.option.Option.{Option}
@@ -9,9 +9,8 @@ use Rattle.plai_clauses.specs.Program.{ProgramView}
 use Rattle.plai_clauses.specs.declared.edit_cause.EditCause.{EditCause}
 use Rattle.plai_script.specs.declared.edit.Edit.{Edit}
 use Rattle.plai_session.specs.Programs.{behind}
-use Rattle.plai_words.specs.declared.types.Settings.{Settings}
-use Rattle.plai_top.specs.Blocks.{Block, table, refused, stopped, text_of, texts_from, AreBlocksOf, one_more}
-use Rattle.plai_top.specs.Ending.{Comes, EndsBy, EndsByEach, EndsEarly, IsFault, IsFaultOrComes}
+use Rattle.plai_top.specs.Blocks.{Block, texts_from, AreBlocksOf, one_more}
+use Rattle.plai_top.specs.Ending.{Comes, EndsBy, EndsByEach, EndsEarly, IsFaultOrComes}
 use Rattle.plai_top.specs.Outcome.{Outcome, silent, line, done, IsByWords, no_command, too_many, IsEarly, by_words, too_long, AreBlocks, IsMadeOutcome, IsOutcome, OutcomeIsOne}
 use Rattle.plai_top.specs.Outcome as outcomes
 use Rattle.plai_top.specs.Plans.{IsPlan, IsFitPlan, IsLineOf, KeepsEarly, CarriesOut, IsPlanStop}
@@ -20,12 +19,12 @@ use Rattle.plai_top.specs.Tasks.{domain_of, form_of, task_of}
 use Rattle.plai_top.specs.Told.{IfBothTold}
 use Rattle.plai_top.specs.Writing.{WritesBlocks}
 use Rattle.plai_top.specs.declared.form.Form.{Form}
-use Rattle.plai_top.specs.declared.form.Form.TheVariants.{Tables, Counts}
 use Rattle.plai_top.specs.declared.plan.Plan.{Plan}
 use Rattle.plai_top.specs.declared.plan.Plan.TheVariants.{Line, Blocks}
 use Rattle.plai_top.specs.declared.stop.Stop.{Stop}
 use Rattle.plai_top.specs.declared.task.Task.{Task}
 use Rattle.plai_top.proofs.Outcomes.{outcome_blocks}
+use Rattle.plai_top.proofs.Written.{blocks_not_empty, first_extend, prefix_extends, all_extends}
 
 -- nothing was written
 pub nothing_appended : (taken : Option (List ℕ)) → Appends taken taken []
@@ -36,23 +35,6 @@ all_kept : (taken : Option (List ℕ)) → Keeps taken taken
 all_kept None = tt
 all_kept (Some bytes) = refl
 
--- ---- texts of blocks have bytes
-
-not_empty : (x : ℕ) (xs : List ℕ) → (x ∷ xs) ≢ []
-not_empty x xs e = cc
-
-block_not_empty : (form : Form) (number : ℕ) (block : Block) (more : List ℕ) → text_of form number block ++ more ≢ []
-block_not_empty Tables number (table rows checks verdicts) more = not_empty _ _
-block_not_empty Tables number (refused cause) more = not_empty _ _
-block_not_empty Tables number (stopped limit) more = not_empty _ _
-block_not_empty Counts number (table rows checks verdicts) more = not_empty _ _
-block_not_empty Counts number (refused cause) more = not_empty _ _
-block_not_empty Counts number (stopped limit) more = not_empty _ _
-
-blocks_not_empty : (form : Form) (blocks : List Block) → blocks ≢ [] → texts_from form 0 blocks ≢ []
-blocks_not_empty form [] some = absurd (some refl)
-blocks_not_empty form (block ∷ blocks) some = block_not_empty form 0 block (texts_from form 1 blocks)
-
 -- ---- blocks that were written
 
 module _ (form : Form) (p : PlainDomain) (limit : ℕ) (given : Result ProgramView EditCause) (left : List (Result ProgramView EditCause)) (before after : Option (List ℕ)) where
@@ -62,13 +44,18 @@ module _ (form : Form) (p : PlainDomain) (limit : ℕ) (given : Result ProgramVi
   -- not all of them
   pub cut_blocks : (stop : Stop) → WritesBlocks form p limit (given ∷ left) before after (Err stop) → (them : List Block) → AreBlocksOf p limit (given ∷ left) them
       → (others : List Block) × AreBlocksOf p limit (given ∷ left) others × EndsBy (status_of stop) before after (done form others)
-  cut_blocks stop (cause, cut) them are =
-      let (others, also, first) = cut them are in (
+  cut_blocks stop (text, is, wrote) them are =
+      let (others, also, (rest, parts)) = first_extend p limit form (given ∷ left) before text is them are in
+      let whole : List ℕ = texts_from form 0 others in (
         others,
         also,
-        elim cause [
-          | inl memory ↦ inr (inr (inr (ap status_of memory, first)))
-          | inr fault ↦ inr (inr (inl (ap status_of fault, blocks_not_empty form others (some_blocks others also), first)))
+        elim wrote [
+          | inl memory ↦ inr (inr (inr (ap status_of memory.0, all_extends before after text rest whole parts memory.1)))
+          | inr fault ↦ inr (inr (inl (
+            ap status_of fault.0,
+            blocks_not_empty form others (some_blocks others also),
+            prefix_extends before after text rest whole parts fault.2,
+          )))
         ],
       )
 

@@ -5,6 +5,7 @@ mod Headline
 mod Made
 mod Opened
 mod Outcomes
+mod Parts
 mod Printed
 mod Reading
 mod Scripts

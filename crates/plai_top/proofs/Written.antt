@@ -1,5 +1,5 @@
 -- Blocks that are written one by one are the blocks of a call.
-use Rattle.std.proofs.Common.{◌≡◌, ◌⊎◌, ℕ, zero, suc, ◌+◌, Bool, true, false, ◌&&◌, cond, ◌<◌, ◌≤◌, List, [], ◌∷◌, ◌++◌, None, Some, Result, Ok, Err, IfOk, length, take, drop, get_or, refl, sym, ◌∙◌, ap, subst, inl, inr, arith}
+use Rattle.std.proofs.Common.{◌≡◌, ◌≢◌, ℕ, zero, suc, ◌+◌, Bool, true, false, ◌&&◌, cond, ◌<◌, ◌≤◌, List, [], ◌∷◌, ◌++◌, None, Some, Result, Ok, Err, IfOk, length, take, drop, get_or, refl, sym, ◌∙◌, ap, subst, inl, inr, arith}
 use Rattle.std.proofs.Math.Seq.{take-append_seam, take-append-add}
 use Rattle.std.proofs.lemmas.List.{append-nil, append_assoc, length-append, drop_more, drop_all}
 use Rattle.std.proofs.lemmas.List.Folds.{list_all-append}
@@ -13,9 +13,10 @@ use Rattle.plai_clauses.specs.WellFormed.{IsWellFormed}
 use Rattle.plai_clauses.specs.declared.edit_cause.EditCause.{EditCause}
 use Rattle.plai_script.specs.declared.edit.Edit.{Edit}
 use Rattle.plai_session.specs.Programs.{judged, kept, behind}
-use Rattle.plai_top.specs.Blocks.{Block, text_of, texts_from, is_table, status_of_blocks, IsBlockOf, AreBlocksOf, no_more, one_more}
-use Rattle.plai_top.specs.Writing.{IsBlockText, WritesBlock, AreFormed, Wrote, WritesBlocks}
+use Rattle.plai_top.specs.Blocks.{Block, table, refused, stopped, text_of, texts_from, is_table, IsBlockOf, AreBlocksOf, no_more, one_more, IsTextOfFirst}
+use Rattle.plai_top.specs.Writing.{WritesBlock, AreFormed, Wrote, WritesBlocks}
 use Rattle.plai_top.specs.declared.form.Form.{Form}
+use Rattle.plai_top.specs.declared.form.Form.TheVariants.{Tables, Counts}
 use Rattle.plai_top.specs.declared.stop.Stop.{Stop}
 use Rattle.plai_top.specs.declared.stop.Stop.TheVariants.{WriteFault, Memory}
 
@@ -36,11 +37,22 @@ nothing_more : (taken : Option (List ℕ)) → Appends taken taken []
 nothing_more None = tt
 nothing_more (Some bytes) = sym (append-nil bytes)
 
+not_empty : (x : ℕ) (xs : List ℕ) → (x ∷ xs) ≢ []
+not_empty x xs e = cc
+
 -- the first bytes of a text are the first bytes of it with more behind
-pub prefix_of : (n : ℕ) (xs ys : List ℕ) → (m : ℕ) × (take m (xs ++ ys) ≡ take n xs)
+prefix_of : (n : ℕ) (xs ys : List ℕ) → (m : ℕ) × (take m (xs ++ ys) ≡ take n xs)
 prefix_of zero xs ys = (0, refl)
 prefix_of (suc n) [] ys = (0, refl)
 prefix_of (suc n) (x ∷ xs) ys = let (m, is) = prefix_of n xs ys in (suc m, ap (λ l. x ∷ l) is)
+
+module _ (before after : Option (List ℕ)) (text rest whole : List ℕ) (parts : whole ≡ text ++ rest) where
+  -- what is a prefix of a text, or all of it, is a prefix of it with more behind
+  pub prefix_extends : ((n : ℕ) × Appends before after (take n text)) → (m : ℕ) × Appends before after (take m whole)
+  prefix_extends (n, took) = let (m, same) = prefix_of n text rest in (m, subst (Appends before after) (sym (ap (take m) parts ∙ same)) took)
+
+  pub all_extends : Appends before after text → (m : ℕ) × Appends before after (take m whole)
+  all_extends took = (length text, subst (Appends before after) (sym (ap (take (length text)) parts ∙ take-append_seam text rest)) took)
 
 -- ---- texts of blocks
 
@@ -53,6 +65,23 @@ texts_join form number (block ∷ blocks) others =
 pub texts_behind : (form : Form) (blocks others : List Block) → texts_from form 0 (blocks ++ others) ≡ texts_from form 0 blocks ++ texts_from form (length blocks) others
 texts_behind form blocks others = texts_join form 0 blocks others ∙ ap (λ n. texts_from form 0 blocks ++ texts_from form n others) (omega arith)
 
+-- they have bytes
+block_not_empty : (form : Form) (number : ℕ) (block : Block) (more : List ℕ) → text_of form number block ++ more ≢ []
+block_not_empty Tables number (table rows checks verdicts) more = not_empty _ _
+block_not_empty Tables number (refused cause) more = not_empty _ _
+block_not_empty Tables number (stopped limit) more = not_empty _ _
+block_not_empty Counts number (table rows checks verdicts) more = not_empty _ _
+block_not_empty Counts number (refused cause) more = not_empty _ _
+block_not_empty Counts number (stopped limit) more = not_empty _ _
+
+pub blocks_not_empty : (form : Form) (blocks : List Block) → blocks ≢ [] → texts_from form 0 blocks ≢ []
+blocks_not_empty form [] some = absurd (some refl)
+blocks_not_empty form (block ∷ blocks) some = block_not_empty form 0 block (texts_from form 1 blocks)
+
+one_more_is_some : (blocks : List Block) (block : Block) → (blocks ++ block ∷ []) ≢ []
+one_more_is_some [] block e = let wrong : (block ∷ []) ≡ [] = e in cc
+one_more_is_some (first ∷ blocks) block e = let wrong : (first ∷ (blocks ++ block ∷ [])) ≡ [] = e in cc
+
 module _ (p : PlainDomain) (limit : ℕ) where
   blocks_join : (gs hs : List (Result ProgramView EditCause)) (bs cs : List Block) → AreBlocksOf p limit gs bs → AreBlocksOf p limit hs cs → AreBlocksOf p limit (gs ++ hs) (bs ++ cs)
   blocks_join gs hs bs cs no_more two = two
@@ -61,10 +90,6 @@ module _ (p : PlainDomain) (limit : ℕ) where
   later_blocks : (gs hs : List (Result ProgramView EditCause)) (bs : List Block) → AreBlocksOf p limit (gs ++ hs) bs → (cs : List Block) × AreBlocksOf p limit hs cs
   later_blocks [] hs bs are = (bs, are)
   later_blocks (g ∷ gs) hs bs (one_more _ b _ ds is are) = later_blocks gs hs ds are
-
-  last_blocks : (g : Result ProgramView EditCause) (hs : List (Result ProgramView EditCause)) (bs : List Block) → AreBlocksOf p limit (g ∷ hs) bs
-      → (cs : List Block) × AreBlocksOf p limit hs cs
-  last_blocks g hs bs (one_more _ b _ ds is are) = (ds, are)
 
   one_alone : (g : Result ProgramView EditCause) (b : Block) → IsBlockOf p limit g b → AreBlocksOf p limit (g ∷ []) (b ∷ [])
   one_alone g b is = one_more g b [] [] is no_more
@@ -97,51 +122,55 @@ module _ (p : PlainDomain) (limit : ℕ) where
           alone b true e = ap (λ x. x && true) e
           alone b false e = ap (λ x. x && true) e
 
-      -- a prefix of the block's text was written, or nothing of it
-      stopped_within : (next : Option (List ℕ)) (block : Block) → IsBlockOf p limit given block → (n : ℕ) → Appends now next (take n (text_of form number block))
-          → (others : List Block) → AreBlocksOf p limit givens others
-          → (blocks : List Block) × AreBlocksOf p limit givens blocks × ((m : ℕ) × Appends before next (take m (texts_from form 0 blocks)))
-      stopped_within next block is n took others are =
-          let (tail, tails) = later_blocks wrote.earlier (given ∷ left) others (subst (λ gs. AreBlocksOf p limit gs others) wrote.parts are) in
-          let (rest, rests) = last_blocks given left tail tails in
-          let blocks : List Block = wrote.written ++ block ∷ rest in
-          let are_blocks : AreBlocksOf p limit (wrote.earlier ++ given ∷ left) blocks = blocks_join wrote.earlier (given ∷ left) wrote.written (block ∷ rest) wrote.are (one_more given block left rest is rests) in
-          let behind_text : List ℕ = texts_from form (number + 1) rest in
-          let (m, first) = prefix_of n (text_of form number block) behind_text in
-          let whole : texts_from form 0 blocks ≡ texts_from form 0 wrote.written ++ (text_of form number block ++ behind_text) =
-          texts_behind form wrote.written (block ∷ rest) ∙ ap (λ k. texts_from form 0 wrote.written ++ texts_from form k (block ∷ rest)) wrote.count in
-          let cut : take (length (texts_from form 0 wrote.written) + m) (texts_from form 0 blocks) ≡ texts_from form 0 wrote.written ++ take n (text_of form number block) =
-          ap (take (length (texts_from form 0 wrote.written) + m)) whole ∙ take-append-add (texts_from form 0 wrote.written) (text_of form number block ++ behind_text) m
-          ∙ ap (λ l. texts_from form 0 wrote.written ++ l) first in (
-            blocks,
-            subst (λ gs. AreBlocksOf p limit gs blocks) (sym wrote.parts) are_blocks,
-            (
-              length (texts_from form 0 wrote.written) + m,
-              subst (Appends before next) (sym cut)
-                  (appends_then before now next (texts_from form 0 wrote.written) (take n (text_of form number block)) wrote.bytes took),
+      -- a write failed within the block
+      cut_within : (next : Option (List ℕ)) (stop : Stop) → stop ≡ WriteFault → (block : Block) → IsBlockOf p limit given block
+          → (n : ℕ) → Appends now next (take n (text_of form number block)) → WritesBlocks form p limit givens before next (Err stop)
+      cut_within next stop fault block is n took =
+          let them : List Block = wrote.written ++ block ∷ [] in
+          let head : List ℕ = texts_from form 0 wrote.written in
+          let own : List ℕ = text_of form number block in
+          let numbered : texts_from form (length wrote.written) (block ∷ []) ≡ own ++ [] = ap (λ k. texts_from form k (block ∷ [])) wrote.count in
+          let whole : texts_from form 0 them ≡ head ++ own =
+          texts_behind form wrote.written (block ∷ []) ∙ ap (λ l. head ++ l) (numbered ∙ append-nil own) in
+          let cut : take (length head + n) (texts_from form 0 them) ≡ head ++ take n own = ap (take (length head + n)) whole ∙ take-append-add head own n in (
+            texts_from form 0 them,
+            record {
+              first = wrote.earlier ++ given ∷ [];
+              others = left;
+              parts = wrote.parts ∙ sym (append_assoc wrote.earlier (given ∷ []) left);
+              blocks = them;
+              are = blocks_join wrote.earlier (given ∷ []) wrote.written (block ∷ []) wrote.are (one_alone given block is);
+              is_text = refl;
+            },
+            inr (
+              fault,
+              blocks_not_empty form them (one_more_is_some wrote.written block),
+              (length head + n, subst (Appends before next) (sym cut) (appends_then before now next head (take n own) wrote.bytes took)),
             ),
           )
 
-      first_block : (others : List Block) → AreBlocksOf p limit givens others → (block : Block) × IsBlockOf p limit given block
-      first_block others are =
-          let (tail, tails) = later_blocks wrote.earlier (given ∷ left) others (subst (λ gs. AreBlocksOf p limit gs others) wrote.parts are) in
-          head_of tail tails
-        where
-          head_of : (bs : List Block) → AreBlocksOf p limit (given ∷ left) bs → (block : Block) × IsBlockOf p limit given block
-          head_of bs (one_more _ b _ ds is also) = (b, is)
-
       pub wrote_stops : (next : Option (List ℕ)) (stop : Stop) → WritesBlock form p limit number given now next (Err stop) → WritesBlocks form p limit givens before next (Err stop)
-      wrote_stops next stop (inl (memory, same)) = (
-        inl memory,
-        λ others are.
-            let (block, is) = first_block others are in
-            stopped_within next block is 0 (kept_appends now next same) others are,
-      )
-      wrote_stops next stop (inr (fault, (text, shows, is, (n, took)))) = (
-        inr fault,
-        λ others are.
-            stopped_within next is.block is.is_block n (subst (λ l. Appends now next (take n l)) is.is_text took) others are,
-      )
+      wrote_stops next stop (inl (memory, same)) =
+          let head : List ℕ = texts_from form 0 wrote.written in
+          let took : Appends before next (head ++ []) = appends_then before now next head [] wrote.bytes (kept_appends now next same) in (
+            head,
+            record { first = wrote.earlier; others = given ∷ left; parts = wrote.parts; blocks = wrote.written; are = wrote.are; is_text = refl },
+            inl (memory, subst (Appends before next) (append-nil head) took),
+          )
+      wrote_stops next stop (inr (fault, (text, shows, is, (n, took)))) =
+          cut_within next stop fault is.block is.is_block n (subst (λ l. Appends now next (take n l)) is.is_text took)
+
+    -- other blocks of all of these complete those of the first
+    pub first_extend : (text : List ℕ) → IsTextOfFirst form p limit givens text → (others : List Block) → AreBlocksOf p limit givens others
+        → (blocks : List Block) × AreBlocksOf p limit givens blocks × ((rest : List ℕ) × (texts_from form 0 blocks ≡ text ++ rest))
+    first_extend text is others are =
+        let (tail, tails) = later_blocks is.first is.others others (subst (λ gs. AreBlocksOf p limit gs others) is.parts are) in
+        let blocks : List Block = is.blocks ++ tail in
+        let rest : List ℕ = texts_from form (length is.blocks) tail in (
+          blocks,
+          subst (λ gs. AreBlocksOf p limit gs blocks) (sym is.parts) (blocks_join is.first is.others is.blocks tail is.are tails),
+          (rest, texts_behind form is.blocks tail ∙ ap (λ l. l ++ rest) (sym is.is_text)),
+        )
 
     pub wrote_all : (now : Option (List ℕ)) (number : ℕ) (are_tables : Bool) → Wrote form p limit givens before now [] number are_tables
         → WritesBlocks form p limit givens before now (Ok (cond are_tables 0 1))
@@ -207,3 +236,9 @@ pub first_stops : (form : Form) (p : PlainDomain) (limit : ℕ) (given : Result 
     → WritesBlock form p limit 0 given before now (Err stop) → WritesBlocks form p limit (given ∷ left) before now (Err stop)
 first_stops form p limit given left before now stop writes =
     wrote_stops p limit form (given ∷ left) before before given left 0 true (nothing_written p limit form (given ∷ left) before (nothing_more before)) now stop writes
+
+-- there is no first block
+pub none_written : (form : Form) (p : PlainDomain) (limit : ℕ) (givens : List (Result ProgramView EditCause)) (taken : Option (List ℕ))
+    → WritesBlocks form p limit givens taken taken (Err Memory)
+none_written form p limit givens taken =
+    ([], record { first = []; others = givens; parts = refl; blocks = []; are = no_more; is_text = refl }, inl (refl, nothing_more taken))

@@ -79,6 +79,15 @@ pub data AreBlocksOf (p : PlainDomain) (limit : ℕ) : List (Result ProgramView 
   one_more : (given : Result ProgramView EditCause) (block : Block) (others : List (Result ProgramView EditCause)) (blocks : List Block)
       → IsBlockOf p limit given block → AreBlocksOf p limit others blocks → AreBlocksOf p limit (given ∷ others) (block ∷ blocks)
 
+-- the text of blocks of the first of these, however many
+pub record IsTextOfFirst (form : Form) (p : PlainDomain) (limit : ℕ) (givens : List (Result ProgramView EditCause)) (text : List ℕ) : Type 0 where
+  pub first : List (Result ProgramView EditCause)
+  pub others : List (Result ProgramView EditCause)
+  pub parts : givens ≡ first ++ others
+  pub blocks : List Block
+  pub are : AreBlocksOf p limit first blocks
+  pub is_text : text ≡ texts_from form 0 blocks
+
 -- a stop, by that many rows or by groups
 pub data IsStop (limit : ℕ) : Block → Type 0 where
   by_rows : IsStop limit (stopped (Some limit))

@@ -5,7 +5,7 @@ use Rattle.std.specs.declared.option.Option.{Option}
 use Rattle.plai_base.specs.Texts.{TextMap}
 use Rattle.plai_words.specs.declared.types.Settings.{Settings}
 use Rattle.plai_top.specs.Commands.{IsMake}
-use Rattle.plai_top.specs.Outcome.{Outcome, IsByWords, IsEarly, IsMadeOutcome, AreOne}
+use Rattle.plai_top.specs.Outcome.{Outcome, IsByWords, IsEarly, IsOutcome, AreFirstBlocks, line, IsMadeOutcome, AreOne}
 
 -- a prefix of the bytes was taken
 abbrev pub TookPrefix : Option (List ℕ) → Option (List ℕ) → List ℕ → Type 0
@@ -36,6 +36,13 @@ IsFaultOrComes Among result before after = IsFault result ⊎ ((outcome : Outcom
 abbrev pub EndsByEach : List (List ℕ) → (Outcome → Type 0) → ℕ → Option (List ℕ) → Option (List ℕ) → Type 0
 EndsByEach words Among result before after =
     (outcome : Outcome) → Among outcome → (other : Outcome) × Among other × AreOne words outcome other × EndsBy result before after other
+
+-- where a write failed, a prefix of a line of a refusal or of the first blocks was taken, and these have bytes; where memory ran
+-- out, all of the first blocks, or nothing
+pub record EndsWithin (words : List (List ℕ)) (files : TextMap) (script : List ℕ) (result : ℕ) (before after : Option (List ℕ)) : Type 0 where
+  pub cut : result ≡ 6
+      → (text : List ℕ) × (IsOutcome words files script (line text) ⊎ AreFirstBlocks words files script text) × (text ≢ []) × TookPrefix before after text
+  pub short : result ≡ 7 → (text : List ℕ) × AreFirstBlocks words files script text × Appends before after text
 
 -- a call for a made program ended by an outcome of that, or by a fault behind a part of it
 abbrev pub EndsMade : List (List ℕ) → ℕ → Option (List ℕ) → Option (List ℕ) → Type 0

@@ -13,7 +13,7 @@ use Rattle.plai_script.specs.declared.edit.Edit.{Edit}
 use Rattle.plai_session.specs.Programs.{behind}
 use Rattle.plai_words.specs.Command.{settings_of}
 use Rattle.plai_words.specs.declared.types.Settings.{Settings}
-use Rattle.plai_top.specs.Blocks.{Block, texts_from, status_of_blocks, AreBlocksOf, AreSameUpToStops}
+use Rattle.plai_top.specs.Blocks.{Block, texts_from, status_of_blocks, AreBlocksOf, IsTextOfFirst, AreSameUpToStops}
 use Rattle.plai_make.specs.Programs.{made_program, made_edits}
 use Rattle.plai_top.specs.Commands.{most_files, is_over_files, IsCommand, IsMake}
 use Rattle.plai_top.specs.Files.{IsSomeLong, name_at, HasProgram, HasRefusal}
@@ -87,6 +87,14 @@ pub data IsOutcome (words : List (List ℕ)) (files : TextMap) (script : List �
   blocks : (settings : Settings) (program : ProgramView) (items : List (Result Edit EditCause)) (blocks : List Block)
       → IsAsked words files script settings program items → AreBlocks settings program items blocks
       → IsOutcome words files script (done (form_of settings) blocks)
+
+-- nothing, or the text of blocks of the first of what is analysed, whether or not the others have blocks
+pub data AreFirstBlocks (words : List (List ℕ)) (files : TextMap) (script : List ℕ) : List ℕ → Type 0 where
+  none_yet : AreFirstBlocks words files script []
+  first_ones : (settings : Settings) (program : ProgramView) (items : List (Result Edit EditCause)) (text : List ℕ)
+      → IsAsked words files script settings program items
+      → IsTextOfFirst (form_of settings) (domain_of (task_of settings)) settings.rows (Ok program ∷ behind program items) text
+      → AreFirstBlocks words files script text
 
 -- the outcomes of a made program, which depend on no file and no script
 abbrev pub IsMadeOutcome : Settings → ℕ → Outcome → Type 0

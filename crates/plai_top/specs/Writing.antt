@@ -1,5 +1,5 @@
 -- What was written of the blocks of a call, and how far.
-use Rattle.std.specs.Prelude.{◌≡◌, ◌⊎◌, ℕ, Bool, true, false, List, ◌++◌, length, take, Result, Ok, Err, All, IfOk}
+use Rattle.std.specs.Prelude.{◌≡◌, ◌≢◌, ◌⊎◌, ℕ, Bool, true, false, List, [], ◌++◌, length, take, Result, Ok, Err, All, IfOk}
 use Rattle.std.specs.List.{list_all}
 use Rattle.std.specs.Io.KnownBytes.{Appends, Keeps}
 use Rattle.std.specs.declared.option.Option.{Option}
@@ -11,7 +11,7 @@ use Rattle.plai_render.specs.declared.text_table.TextTable.{TextTable}
 use Rattle.plai_session.specs.Sessions.{IsAnalysed}
 use Rattle.plai_session.specs.declared.answer.EditAnswer.{EditAnswer}
 use Rattle.plai_session.specs.declared.answer.EditAnswer.TheVariants as answer
-use Rattle.plai_top.specs.Blocks.{Block, refused, text_of, is_table, texts_from, status_of_blocks, IsBlockOf, AreBlocksOf}
+use Rattle.plai_top.specs.Blocks.{Block, refused, text_of, is_table, texts_from, status_of_blocks, IsBlockOf, AreBlocksOf, IsTextOfFirst}
 use Rattle.plai_top.specs.declared.form.Form.{Form}
 use Rattle.plai_top.specs.declared.stop.Stop.{Stop}
 use Rattle.plai_top.specs.declared.stop.Stop.TheVariants.{WriteFault, Memory}
@@ -66,14 +66,16 @@ pub record AreWritten (form : Form) (p : PlainDomain) (limit : ℕ) (givens : Li
   pub is_status : status ≡ status_of_blocks blocks
   pub bytes : Appends before after (texts_from form 0 blocks)
 
--- Blocks of these were written, all of them. Or a write failed or memory was wanting: what was written are then the first
--- bytes of blocks of these, if there are any.
+-- the text was written, and memory was wanting behind it; or it has bytes, and a write failed behind a prefix of it
+abbrev pub WritesPart : Option (List ℕ) → Option (List ℕ) → List ℕ → Stop → Type 0
+WritesPart before after text stop =
+    ((stop ≡ Memory) × Appends before after text)
+    ⊎ ((stop ≡ WriteFault) × (text ≢ []) × ((n : ℕ) × Appends before after (take n text)))
+
+-- Blocks of these were written, all of them; or those of the first of them, and the last of these may be cut off.
 abbrev pub WritesBlocks : Form → PlainDomain → ℕ → List (Result ProgramView EditCause) → Option (List ℕ) → Option (List ℕ) → Result ℕ Stop → Type 0
 WritesBlocks form p limit givens before after (Ok status) = AreWritten form p limit givens before after status
-WritesBlocks form p limit givens before after (Err stop) =
-    ((stop ≡ Memory) ⊎ (stop ≡ WriteFault))
-    × ((others : List Block) → AreBlocksOf p limit givens others
-    → (blocks : List Block) × AreBlocksOf p limit givens blocks × ((n : ℕ) × Appends before after (take n (texts_from form 0 blocks))))
+WritesBlocks form p limit givens before after (Err stop) = (text : List ℕ) × IsTextOfFirst form p limit givens text × WritesPart before after text stop
 
 -- whether the block of an answer shows a table
 abbrev pub shows_table : EditAnswer → Bool

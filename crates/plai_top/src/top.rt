@@ -1,10 +1,11 @@
 // The whole program: all that is read, and then the blocks.
-ghost use Rattle.std.specs.Prelude.{◌≡◌, ◌≤◌, ◌⊎◌, None, IfSome, IfOk, IfErr, IsErrOf};
+ghost use Rattle.std.specs.Prelude.{◌≡◌, ◌≤◌, ◌⊎◌, ℕ, List, None, IfSome, IfOk, IfErr, IsErrOf};
 ghost use Rattle.std.specs.Io.KnownBytes.{Keeps, IsAtEnd};
 ghost use Rattle.plai_base.specs.Causes.{Rose};
+ghost use Rattle.plai_base.specs.Texts.{TextMap};
 ghost use Rattle.plai_words.specs.Command.{settings_of, texts};
 ghost use Rattle.plai_top.specs.Commands.{AskForMade};
-ghost use Rattle.plai_top.specs.Ending.{IsFaultOrComes, EndsByEach, EndsMade, EndsByWords, EndsEarly, IsSilent, IsBeforeWork, IsStatus, IsMadeStatus};
+ghost use Rattle.plai_top.specs.Ending.{IsFaultOrComes, EndsByEach, EndsWithin, EndsMade, EndsByWords, EndsEarly, IsSilent, IsBeforeWork, IsStatus, IsMadeStatus};
 ghost use Rattle.plai_top.specs.Headline.{TakesPromised};
 ghost use Rattle.plai_top.specs.Outcome.{Outcome, IsByWords, IsEarly, IsOutcome, OutcomeIsOne};
 ghost use Rattle.plai_top.specs.Plans.{IsFitPlan, HasAnalysis, CarriesOut, IsPlanStatus, IsPlanStop};
@@ -105,6 +106,13 @@ pub fn run<B: Library, S: Source, K: Sink, W: Work, L: Ledger>(
     // other byte was written.
     ensures every { IfBothTold (B.files library.old) (S.left script.old) (λ files text.
         EndsByEach (texts words.now) (IsOutcome (texts words.now) files text) result (K.taken sink.old) (K.taken sink.new)) }
+
+    // At 6 and 7, where both tell, what was written is a prefix of the output: at 6 of the line of a refusal or of the first blocks,
+    // at 7 whole blocks, or nothing. Of a made program this holds whatever both tell.
+    ensures part { IfBothTold (B.files library.old) (S.left script.old) (λ files text.
+        EndsWithin (texts words.now) files text result (K.taken sink.old) (K.taken sink.new)) }
+    ensures made_part { AskForMade (texts words.now) → (files : TextMap) (text : List ℕ)
+        → EndsWithin (texts words.now) files text result (K.taken sink.old) (K.taken sink.new) }
 
     // What the words decide comes before the files, and what the files decide before the script.
     ensures refused { EndsByWords (texts words.now) result }

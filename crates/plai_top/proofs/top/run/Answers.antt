@@ -1,12 +1,13 @@
-use Rattle.std.proofs.Common.{◌≡◌, ◌⊎◌, IfSome, sym, subst}
+use Rattle.std.proofs.Common.{◌≡◌, ◌⊎◌, IfSome, Err, sym, ap, subst}
 use Rattle.plai_base.specs.Causes.{Rose}
 use Rattle.plai_words.specs.Command.{texts}
-use Rattle.plai_top.specs.Ending.{EndsEarly, EndsMade, IsMadeStatus}
+use Rattle.plai_top.specs.Ending.{EndsEarly, EndsMade, EndsWithin, IsMadeStatus}
 use Rattle.plai_top.specs.Headline.{TakesPromised}
 use Rattle.plai_top.specs.Told.{IfBothTold}
 use Rattle.plai_top.proofs.Endings.{plan_whole, plan_every, plan_early, cut_whole, cut_every, cut_early, stopped_whole, stopped_every, stopped_early}
 use Rattle.plai_top.proofs.Made.{plan_made, cut_made, stopped_made, plan_made_status, cut_made_status, stopped_made_status}
 use Rattle.plai_top.proofs.Headline.{plan_promised, stop_promises}
+use Rattle.plai_top.proofs.Parts.{plan_within, stopped_within, plan_part, stopped_part, cut_part, cut_made_part}
 use Rattle.plai_top.proofs.top.run.Goals as goal
 
 pub returns-in-Ok-carry_out-clause-whole : goal.returns-in-Ok-carry_out-clause-whole
@@ -77,3 +78,43 @@ returns-in-Err-carry_out-clause-made_status g c = λ asked.
 pub returns-in-Err-clause-made_status : goal.returns-in-Err-clause-made_status
 returns-in-Err-clause-made_status g c = λ asked.
     subst IsMadeStatus (sym c.status-in-Err.ensures) (stopped_made_status (texts c.args.words.now) c.in-Err.stop c.in-Err.ensures.made asked)
+
+pub returns-in-Ok-carry_out-clause-part : goal.returns-in-Ok-carry_out-clause-part
+returns-in-Ok-carry_out-clause-part g c =
+    plan_part (texts c.args.words.now) (g.B.Library.files c.args.library.now) (g.S.Source.left c.args.script.now) (g.K.Sink.taken c.args.sink.now) (g.K.Sink.taken c.carry_out.new.sink)
+    c.in-Ok.plan c.in-Ok-carry_out.status c.in-Ok-carry_out.ensures.status
+
+pub returns-in-Err-carry_out-clause-part : goal.returns-in-Err-carry_out-clause-part
+returns-in-Err-carry_out-clause-part g c =
+    let told = g.B.Library.files c.args.library.now in
+    let left = g.S.Source.left c.args.script.now in
+    let before = g.K.Sink.taken c.args.sink.now in
+    let after = g.K.Sink.taken c.carry_out.new.sink in
+    subst (λ n. IfBothTold told left (λ files text. EndsWithin (texts c.args.words.now) files text n before after)) (sym c.status.ensures)
+    (cut_part (texts c.args.words.now) before after c.in-Ok.plan c.in-Err-carry_out.stop c.in-Ok.ensures.fit c.in-Err-carry_out.ensures.written told left c.in-Ok.ensures.outcome)
+
+pub returns-in-Err-clause-part : goal.returns-in-Err-clause-part
+returns-in-Err-clause-part g c =
+    let told = g.B.Library.files c.args.library.now in
+    let left = g.S.Source.left c.args.script.now in
+    let taken = g.K.Sink.taken c.args.sink.now in
+    subst (λ n. IfBothTold told left (λ files text. EndsWithin (texts c.args.words.now) files text n taken taken)) (sym c.status-in-Err.ensures)
+    (stopped_part (texts c.args.words.now) told left taken c.in-Err.stop (λ e. c.in-Err.ensures.no_write (ap Err e)))
+
+pub returns-in-Ok-carry_out-clause-made_part : goal.returns-in-Ok-carry_out-clause-made_part
+returns-in-Ok-carry_out-clause-made_part g c = λ asked files text.
+    plan_within (texts c.args.words.now) files text (g.K.Sink.taken c.args.sink.now) (g.K.Sink.taken c.carry_out.new.sink)
+    c.in-Ok.plan c.in-Ok-carry_out.status c.in-Ok-carry_out.ensures.status
+
+pub returns-in-Err-carry_out-clause-made_part : goal.returns-in-Err-carry_out-clause-made_part
+returns-in-Err-carry_out-clause-made_part g c = λ asked files text.
+    let before = g.K.Sink.taken c.args.sink.now in
+    let after = g.K.Sink.taken c.carry_out.new.sink in
+    subst (λ n. EndsWithin (texts c.args.words.now) files text n before after) (sym c.status.ensures)
+    (cut_made_part (texts c.args.words.now) before after c.in-Ok.plan c.in-Err-carry_out.stop c.in-Ok.ensures.fit c.in-Err-carry_out.ensures.written c.in-Ok.ensures.made asked files text)
+
+pub returns-in-Err-clause-made_part : goal.returns-in-Err-clause-made_part
+returns-in-Err-clause-made_part g c = λ asked files text.
+    let taken = g.K.Sink.taken c.args.sink.now in
+    subst (λ n. EndsWithin (texts c.args.words.now) files text n taken taken) (sym c.status-in-Err.ensures)
+    (stopped_within (texts c.args.words.now) files text taken c.in-Err.stop (λ e. c.in-Err.ensures.no_write (ap Err e)))
