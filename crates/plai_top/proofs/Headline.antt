@@ -55,11 +55,11 @@ module _ (p : PlainDomain) (program : ProgramView) (rows : List PlainRow) (descr
   front_described : (state : RunState) → IsReached p program state → (items : List Item) → state.items ≡ items → IsFrontDescribed p rows items
   front_described state (pred, args, goal, choices, run) items e = subst (IsFrontDescribed p rows) e (described pred args goal choices state run)
 
-  call_printed : (pred : PredKey) (args : List Term) → IsCalled p program pred args → IsCallPrinted p own_text pred args
+  call_printed : (pred : PredKey) (args : List Term) → IsCalled p program pred args → IsCallPrinted p rows own_text pred args
   call_printed pred args (state, reached, rest, e) =
       let (row, i, is, told) = front_described state reached (Call pred args ∷ rest) e in (row, row_is_printed rows row i number program.checks (verdicts_of p rows program.checks), is, told)
 
-  answer_printed : (pred : PredKey) (was now : List Term) → IsAnswered p program pred was now → IsAnswerPrinted p own_text pred was now
+  answer_printed : (pred : PredKey) (was now : List Term) → IsAnswered p program pred was now → IsAnswerPrinted p rows own_text pred was now
   answer_printed pred was now (state, reached, rest, e) =
       let (row, i, is, called, answer, has, told) = front_described state reached (Mark pred was now ∷ rest) e in
       (row, row_is_printed rows row i number program.checks (verdicts_of p rows program.checks), is, called, answer, has, told)

@@ -27,33 +27,36 @@ use Rattle.plai_top.specs.Blocks.{Block, table, refused, stopped, texts_from}
 use Rattle.plai_top.specs.Outcome.{IsAsked, AreBlocks}
 use Rattle.plai_top.specs.Tasks.{domain_of, form_of, task_of}
 
--- a line of the block is the row's
-abbrev pub IsPrinted : List ℕ → PlainRow → Type 0
-IsPrinted block row = (before after : List ℕ) × (block ≡ before ++ 10 ∷ row_text (text_of row) ++ after)
+-- it is one of these rows, and its line stands in the block
+pub record IsPrinted (rows : List PlainRow) (block : List ℕ) (row : PlainRow) : Type 0 where
+  pub inside : IsIn row rows
+  pub before : List ℕ
+  pub after : List ℕ
+  pub line : block ≡ before ++ 10 ∷ row_text (text_of row) ++ after
 
 -- the call of one printed row of the predicate describes the arguments
-abbrev pub IsCallPrinted : PlainDomain → List ℕ → PredKey → List Term → Type 0
-IsCallPrinted p block pred args = (row : PlainRow) × IsPrinted block row × (row.name.pred ≡ pred) × p.describes row.name.call args
+abbrev pub IsCallPrinted : PlainDomain → List PlainRow → List ℕ → PredKey → List Term → Type 0
+IsCallPrinted p rows block pred args = (row : PlainRow) × IsPrinted rows block row × (row.name.pred ≡ pred) × p.describes row.name.call args
 
 -- one printed row of the predicate describes by its call the arguments as they were, and by its answer the arguments as they are
-abbrev pub IsAnswerPrinted : PlainDomain → List ℕ → PredKey → List Term → List Term → Type 0
-IsAnswerPrinted p block pred was now =
-    (row : PlainRow) × IsPrinted block row × (row.name.pred ≡ pred) × p.describes row.name.call was
+abbrev pub IsAnswerPrinted : PlainDomain → List PlainRow → List ℕ → PredKey → List Term → List Term → Type 0
+IsAnswerPrinted p rows block pred was now =
+    (row : PlainRow) × IsPrinted rows block row × (row.name.pred ≡ pred) × p.describes row.name.call was
     × (answer : Abs) × (answer_in row.answer ≡ Some answer) × p.describes answer now
 
 -- Every call in every left-to-right resolution, of any number of steps from a described goal, is described by the call of one
 -- printed row of its predicate, and every answer by one printed row, by its call as it was and by its answer as it is now.
-pub record DescribesRuns (p : PlainDomain) (program : ProgramView) (block : List ℕ) : Type 0 where
-  pub calls : (pred : PredKey) (args : List Term) → IsCalled p program pred args → IsCallPrinted p block pred args
-  pub answers : (pred : PredKey) (was now : List Term) → IsAnswered p program pred was now → IsAnswerPrinted p block pred was now
+pub record DescribesRuns (p : PlainDomain) (program : ProgramView) (rows : List PlainRow) (block : List ℕ) : Type 0 where
+  pub calls : (pred : PredKey) (args : List Term) → IsCalled p program pred args → IsCallPrinted p rows block pred args
+  pub answers : (pred : PredKey) (was now : List Term) → IsAnswered p program pred was now → IsAnswerPrinted p rows block pred was now
 
--- The block of the edit of that number is the text of the program's least table with its verdicts on the program's assertions.
--- It describes all runs of the program, and each verdict keeps its promise in all of them.
+-- The block of the edit of that number is the text of rows, the program's least table, with their verdicts on the program's
+-- assertions. These rows describe all runs of the program, and each verdict keeps its promise in all of them.
 pub record IsPromised (p : PlainDomain) (program : ProgramView) (number : ℕ) (block : List ℕ) : Type 0 where
   pub rows : List PlainRow
   pub least : IsLeastTable p program rows
   pub written : block ≡ block_text number rows program.checks (verdicts_of p rows program.checks)
-  pub described : DescribesRuns p program block
+  pub described : DescribesRuns p program rows block
   pub kept : (check : Check) → IsIn check program.checks → IsKeptByRuns p program check (verdict_of p rows check)
 
 -- a block that shows a table keeps the promise for its program; one that doesn't promises nothing
