@@ -1,22 +1,20 @@
 -- The blocks of answers.
-use Rattle.std.proofs.Common.{◌≡◌, ◌⊎◌, ℕ, ◌++◌, Bool, true, false, List, [], None, Some, Option, Result, Ok, Err, OnOk, map, unwrap_or, take, refl, sym, ◌∙◌, ap, subst, inl, inr}
-use Rattle.std.specs.Io.KnownBytes.{Appends, Keeps}
+use Rattle.std.proofs.Common.{◌≡◌, ℕ, ◌++◌, Bool, true, false, List, [], None, Some, Option, Result, Ok, Err, OnOk, refl, sym, ◌∙◌, ap, subst, inl, inr}
+use Rattle.std.specs.Io.KnownBytes.{Appends}
 use Rattle.std.specs.declared.alloc.AllocError.{AllocError}
 use Rattle.plai_domain.specs.Plain.{PlainDomain}
 use Rattle.plai_clauses.specs.Program.{ProgramView}
 use Rattle.plai_clauses.specs.declared.edit_cause.EditCause.{EditCause}
-use Rattle.plai_assert.specs.Verdicts.{verdicts_of}
 use Rattle.plai_render.specs.declared.text_table.TextTable.{TextTable}
 use Rattle.plai_session.specs.Programs.{kept}
 use Rattle.plai_session.specs.Sessions.{SessionView, IsEdited}
 use Rattle.plai_session.specs.declared.answer.EditAnswer.{EditAnswer}
 use Rattle.plai_session.specs.declared.answer.EditAnswer.TheVariants as answer
 use Rattle.plai_terms.specs.declared.row_name.RowName.{RowName}
-use Rattle.plai_top.specs.Blocks.{Block, table_of, refused, stopped, rows_text, cause_text, limit_text, text_of, IsBlockOf, is_table_of, many_rows, large_sets, is_refused}
+use Rattle.plai_top.specs.Blocks.{table_of, refused, stopped, rows_text, cause_text, limit_text, text_of, is_table_of, many_rows, large_sets, is_refused}
 use Rattle.plai_top.specs.Writing.{WritesText, IsAnswerFor, IsBlockText, WritesBlock, WritesRefused}
 use Rattle.plai_top.specs.declared.form.Form.{Form}
 use Rattle.plai_top.specs.declared.stop.Stop.{Stop}
-use Rattle.plai_top.specs.declared.stop.Stop.TheVariants.{WriteFault, Memory}
 
 module _ (form : Form) (p : PlainDomain) (limit number : ℕ) (own : ProgramView) (rows : Option TextTable) where
   -- a table

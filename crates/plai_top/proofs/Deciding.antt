@@ -1,5 +1,5 @@
 -- From the phases of a call to its outcomes.
-use Rattle.std.proofs.Common.{◌≡◌, ◌≢◌, ◌⊎◌, ℕ, List, [], None, Some, Ok, Err, IfSome, IfOk, IfErr, MatchResult, map, Vec, refl, ap, ◌∙◌, sym, subst, inl, inr}
+use Rattle.std.proofs.Common.{◌≡◌, ◌⊎◌, ℕ, List, None, Some, Ok, Err, IfSome, MatchResult, map, Vec, refl, ap, ◌∙◌, sym, subst, inl, inr}
 use Rattle.std.specs.declared.alloc.Global.{Global}
 use Rattle.std.specs.declared.option.Option.{Option}
 use Rattle.std.specs.declared.result.Result.{Result}
@@ -8,9 +8,9 @@ use Rattle.plai_clauses.specs.Program.{ProgramView}
 use Rattle.plai_modules.specs.Loading.{loaded}
 use Rattle.plai_modules.specs.declared.named_text.NamedText.{NamedText}
 use Rattle.plai_words.specs.declared.types.Settings.{Settings}
-use Rattle.plai_make.specs.Programs.{made_program, made_edits}
+use Rattle.plai_make.specs.Programs.{made_edits}
 use Rattle.plai_top.specs.Commands.{IsCommand, IsMake}
-use Rattle.plai_top.specs.Files.{texts_of, AreShort, IsSomeLong, HasFiles, HasProgram}
+use Rattle.plai_top.specs.Files.{texts_of, AreShort, IsSomeLong, HasFiles}
 use Rattle.plai_top.specs.Loadings.{IsLoading, IsPrepared}
 use Rattle.plai_top.specs.Outcome.{Outcome, silent, line, refused_by, IsByWords, IsEarly, by_words, too_long, refused, IsAsked, by_files, by_make, IsByScript, IsOutcome, early, by_script}
 use Rattle.plai_top.specs.Outputs.{KeepsWords}

@@ -1,25 +1,20 @@
 -- How a call for a made program ends.
-use Rattle.std.proofs.Common.{◌≡◌, ◌⊎◌, ℕ, List, [], ◌∷◌, None, Result, Ok, Err, MatchResult, refl, sym, ap, ◌∙◌, subst, inl, inr}
+use Rattle.std.proofs.Common.{◌≡◌, ◌⊎◌, ℕ, List, [], None, Result, Ok, Err, refl, sym, ap, subst, inl, inr}
 use Rattle.std.specs.declared.option.Option.{Option}
 use Rattle.plai_base.specs.Texts.{TextMap}
-use Rattle.plai_clauses.specs.Program.{ProgramView}
-use Rattle.plai_clauses.specs.declared.edit_cause.EditCause.{EditCause}
 use Rattle.plai_make.specs.Programs.{made_program, made_edits}
-use Rattle.plai_script.specs.declared.edit.Edit.{Edit}
 use Rattle.plai_session.specs.Programs.{behind}
 use Rattle.plai_words.specs.declared.types.Settings.{Settings}
-use Rattle.plai_top.specs.Blocks.{Block}
 use Rattle.plai_top.specs.Commands.{AskForMade, IsCommand, IsMake}
 use Rattle.plai_top.specs.Ending.{IsFaultOrComes, EndsByEach, EndsMade, IsMadeStatus}
-use Rattle.plai_top.specs.Outcome.{Outcome, silent, done, IsByWords, by_make, blocks, AreBlocks, IsMadeOutcome, IsOutcome, OutcomeIsOne, AreOne}
+use Rattle.plai_top.specs.Outcome.{Outcome, silent, done, IsByWords, by_make, blocks, IsMadeOutcome, IsOutcome, OutcomeIsOne, AreOne}
 use Rattle.plai_top.specs.Plans.{IsMadePlan, KeepsMade, CarriesOut, IsPlanStatus, IsPlanStop}
 use Rattle.plai_top.specs.Stops.{status_of}
 use Rattle.plai_top.specs.Tasks.{domain_of, form_of, task_of}
 use Rattle.plai_top.specs.declared.plan.Plan.{Plan}
 use Rattle.plai_top.specs.declared.plan.Plan.TheVariants.{Line, Blocks}
 use Rattle.plai_top.specs.declared.stop.Stop.{Stop}
-use Rattle.plai_top.specs.declared.stop.Stop.TheVariants.{WriteFault, Memory}
-use Rattle.plai_top.specs.declared.task.Task.{Task}
+use Rattle.plai_top.specs.declared.stop.Stop.TheVariants.{Memory}
 use Rattle.plai_top.proofs.Endings.{Carries, cut_blocks, nothing_appended}
 use Rattle.plai_top.proofs.Outcomes.{not_made, made_not_by_words}
 

@@ -1,5 +1,5 @@
 -- A call has one outcome at most, but that a stop may come beside a table or the other stop.
-use Rattle.std.proofs.Common.{◌≡◌, ◌≤◌, ◌⊎◌, ℕ, List, ◌∷◌, Bool, Option, None, Some, is_none, Result, Ok, Err, true, false, length, refl, sym, ◌∙◌, ap, subst, arith, inl, inr}
+use Rattle.std.proofs.Common.{◌≡◌, ◌≤◌, ℕ, List, ◌∷◌, Option, None, Some, is_none, Result, Ok, Err, true, length, refl, sym, ◌∙◌, ap, subst, arith, inl, inr}
 use Rattle.plai_base.specs.Texts.{TextMap, text_of, longest_text}
 use Rattle.plai_terms.specs.declared.plain_row.PlainRow.{PlainRow}
 use Rattle.plai_domain.specs.Plain.{PlainDomain}

@@ -3,7 +3,7 @@
 -- tokens, and the analysis of the loaded program and of the program behind each edit. Its output has a block for each of
 -- them: the least table of that program under the domain (Muthukumar and Hermenegildo 1992), the limit that its analysis
 -- met, or why the edit is refused.
-use Rattle.std.specs.Prelude.{ℕ, ◌≡◌, ◌≢◌, ◌⊎◌, ◌<◌, ◌≤◌, List, [], ◌∷◌, true, false, None, Some, Result, Ok, Err, length}
+use Rattle.std.specs.Prelude.{ℕ, ◌≡◌, ◌⊎◌, ◌<◌, ◌≤◌, List, [], ◌∷◌, true, None, Some, Result, Ok, Err, length}
 use Rattle.plai_base.specs.Texts.{TextMap}
 use Rattle.plai_clauses.specs.Program.{ProgramView}
 use Rattle.plai_clauses.specs.declared.edit_cause.EditCause.{EditCause}

@@ -3,7 +3,7 @@ use Rattle.std.specs.Prelude.{◌≢◌, ℕ, All, IfOk, List, [], Result}
 use Rattle.plai_clauses.specs.declared.edit_cause.EditCause.{EditCause}
 use Rattle.plai_script.specs.Readable.{IsReadableEdit}
 use Rattle.plai_script.specs.declared.edit.Edit.{Edit}
-use Rattle.plai_top.specs.Outcome.{Outcome, IsByScript, HasEdits, line}
+use Rattle.plai_top.specs.Outcome.{IsByScript, HasEdits, line}
 use Rattle.plai_top.specs.declared.script.Script.{Script}
 use Rattle.plai_top.specs.declared.script.Script.TheVariants.{Edits, Refused}
 

@@ -1,4 +1,4 @@
-use Rattle.std.proofs.Common.{◌≡◌, ◌≤◌, ℕ, ◌+◌, Bool, List, Option, Result, drop}
+use Rattle.std.proofs.Common.{◌≡◌, ◌≤◌, ℕ, ◌+◌, List, Option, Result, drop}
 use Rattle.plai_clauses.specs.Program.{ProgramView}
 use Rattle.plai_clauses.specs.declared.edit_cause.EditCause.{EditCause}
 use Rattle.plai_session.specs.Programs.{behind}
