@@ -12,12 +12,11 @@ has built, and no script.
 import collections
 import os
 import pathlib
-import resource
 import subprocess
 import sys
 import tempfile
 
-from running import PROGRAM, TOP, run
+from running import PROGRAM, TOP, Ended, run
 
 REFUSE = r"""
 #define _GNU_SOURCE
@@ -125,12 +124,15 @@ def refuse_each(loaded, name, words, script, step):
 
 
 def squeeze(name, words):
-    """Runs with less and less memory of any kind; how many were faults."""
+    """Runs with less and less memory of any kind, as long as the system can load the program; how many were faults."""
     whole, faults, said = run(words), 0, []
-    for megabytes in (4096, 512, 256, 128, 64, 48, 32, 24, 20, 16, 12, 10, 8, 6):
-        size = megabytes << 20
-        ended = run(words, preexec_fn=lambda: resource.setrlimit(resource.RLIMIT_AS, (size, size)))
-        said.append(f"{megabytes} MB: {ended.status} and {len(ended.output)} bytes")
+    for megabytes in (4096, 512, 256, 128, 64, 48, 32, 24, 20, 16, 12, 10, 8, 6, 4):
+        program = ["prlimit", f"--as={megabytes << 20}", PROGRAM, *words]
+        ran = subprocess.run(program, stdin=subprocess.DEVNULL, capture_output=True)
+        if ran.returncode == 127:
+            break
+        ended = Ended(ran.returncode, ran.stdout + ran.stderr)
+        said.append(f"{megabytes} MB: status {ended.status}, {len(ended.output)} bytes")
         if not is_right(ended, whole):
             faults += 1
             said[-1] += f", a FAULT: {ended.output[-80:]!r}"

@@ -4,8 +4,8 @@ more, of functors, lists, operators; round brackets, which add no level; files o
 one comment or many; scripts of 16,777,216 bytes; 64 files; and one byte, one file or one level more than each limit.
 
 Each shape that has several sizes shows how time and memory grow. The words choose shapes by the beginnings of their names;
-without words it tries all. Prints for each run its bytes, status, seconds and megabytes, and how the seconds and megabytes
-grew beside the bytes; a run that doesn't end as it must is a fault, and the script's status is 1 then. No run gets more than 6,000
+without words it tries all. Prints for each run its bytes, status, seconds of the processor and megabytes, and how these grew
+beside the bytes; a run that doesn't end as it must is a fault, and the script's status is 1 then. No run gets more than 6,000
 megabytes. A run whose memory is less than some 20 megabytes is shown with those of this script. PLAI names another program than ./plai.
 """
 import itertools

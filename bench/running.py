@@ -3,7 +3,6 @@ import os
 import pathlib
 import resource
 import subprocess
-import time
 import typing
 
 TOP = pathlib.Path(__file__).resolve().parent.parent
@@ -11,7 +10,8 @@ PROGRAM = os.environ.get("PLAI", str(TOP / "plai"))
 
 
 class Ran(typing.NamedTuple):
-    """How a run ended. The memory is the greatest that it had, or that of the script which started it, if that is more."""
+    """How a run ended. Seconds are the processor's, so that a busy machine counts less; the memory is the greatest that it had, or
+    that of the script which started it, if that is more."""
 
     status: int
     seconds: float
@@ -32,11 +32,10 @@ def measured(words, script, output, megabytes=6_000):
         resource.setrlimit(resource.RLIMIT_AS, (megabytes << 20, megabytes << 20))
 
     with open(script, "rb") as given, open(output, "wb") as taken:
-        before = time.monotonic()
         program = subprocess.Popen([PROGRAM, *words], stdin=given, stdout=taken, stderr=taken, preexec_fn=confine)
         _, ended, used = os.wait4(program.pid, 0)
         program.returncode = os.waitstatus_to_exitcode(ended)
-        return Ran(program.returncode, time.monotonic() - before, used.ru_maxrss >> 10)
+        return Ran(program.returncode, used.ru_utime + used.ru_stime, used.ru_maxrss >> 10)
 
 
 def run(words, script=b"", seconds=120, **how):
