@@ -6,6 +6,8 @@ mod depths;
 #[cfg(test)]
 mod edits;
 #[cfg(test)]
+mod faults;
+#[cfg(test)]
 mod made;
 #[cfg(test)]
 mod refusals;
