@@ -6,5 +6,5 @@ set -eu
 cd "$(dirname "$0")/../crates/plai_run_times"
 rt run -- 10 > /dev/null
 for size in 10000 50000 250000; do ./out/plai_run_times "$size" loop times; done
-for size in 20 40 80; do ./out/plai_run_times "$size" reverse times; done
-for size in 50 100 200; do ./out/plai_run_times "$size" deep times; done
+for size in 80 160 320; do ./out/plai_run_times "$size" reverse times; done
+for size in 100 200 400; do ./out/plai_run_times "$size" deep times; done

@@ -14,6 +14,7 @@ mod Walked
 mod Reached
 mod Found
 mod Kept
+mod Pendings
 mod Stacks
 mod Readings
 mod Verdicts

@@ -1,12 +1,11 @@
 -- What the code makes of a goal is the state behind the step.
-use Rattle.std.proofs.Common.{◌≡◌, inl, inr, ℕ, ◌-◌, ◌+◌, ◌<◌, List, [], ◌∷◌, ◌++◌, map, length, take, drop, reverse, refl, sym, ap, subst, ◌∙◌}
-use Rattle.std.proofs.lemmas.List.{map-append, append_assoc, take_rest}
+use Rattle.std.proofs.Common.{◌≡◌, inl, inr, ℕ, ◌+◌, List, [], ◌∷◌, ◌++◌, map, length, take, reverse, refl, sym, ap, subst, ◌∙◌, arith}
+use Rattle.std.proofs.lemmas.List.{map-append, append_assoc, take_all}
 use Rattle.plai_theory.specs.Words.{IsIn}
 use Rattle.plai_terms.specs.Subst.{bound_to}
-use Rattle.plai_terms.specs.declared.term.Term.{Term, Var}
+use Rattle.plai_terms.specs.declared.term.Term.{Term}
 use Rattle.plai_terms.specs.declared.pred_key.PredKey.{PredKey}
 use Rattle.plai_terms.specs.declared.outcome.Outcome.{Outcome}
-use Rattle.plai_terms.specs.declared.outcome.Outcome.TheVariants.{Unified}
 use Rattle.plai_terms.specs.Substitution.{under, raised, AreBelow}
 use Rattle.plai_terms.specs.Unification.{Bindings, UnifiesTo}
 use Rattle.plai_clauses.specs.declared.clause.Clause.{Clause}
@@ -17,37 +16,42 @@ use Rattle.plai_clauses.specs.Program.{ProgramView}
 use Rattle.plai_clauses.specs.WellFormed.{IsLiteral, IsWellFormedClause, IsWellFormed}
 use Rattle.plai_sld.specs.declared.item.Item.{Item}
 use Rattle.plai_sld.specs.declared.item.Item.TheVariants.{Call, Builtin, Mark}
+use Rattle.plai_sld.specs.declared.pending.Pending.{Pending}
 use Rattle.plai_sld.specs.declared.stack.Waiting.{Waiting}
 use Rattle.plai_sld.specs.Limits.{limit_in, past}
 use Rattle.plai_sld.specs.Renaming.{raising}
 use Rattle.plai_sld.specs.Runs.{item_under, items_under, goal_at, goals_of, behind_head, behind_builtin, LeadsTo}
-use Rattle.plai_sld.specs.Stacks.{limited, items_of, AreLimited, on_stack}
+use Rattle.plai_sld.specs.Pending.{AreBoth}
+use Rattle.plai_sld.specs.Stacks.{shown, limited, items_of, AreLimited, with_top, on_stack, IsChange, IsBrought}
+use Rattle.plai_sld.specs.Nexts.{waiting_under}
 use Rattle.plai_sld.specs.States.{AreItems, IsState}
 use Rattle.plai_sld.proofs.Above.{limits_above}
 use Rattle.plai_sld.proofs.Formed.{are_below}
 use Rattle.plai_sld.proofs.Renaming.{raising_is}
-use Rattle.plai_sld.proofs.Stacks.{behind_others, items_replaced, limits_replaced}
+use Rattle.plai_sld.proofs.Stacks.{items_both, shown-limited, limits_on, top_replaced}
 use Rattle.plai_sld.proofs.Kept.{leads_to_state}
 
 -- the first state, and its stack
-pub start_state : (pred : PredKey) (args : List Term) (stack : List Waiting) (w : Waiting) (next : ℕ) (pred' : PredKey) (args' : List Term) → length args ≡ pred.arity → stack ≡ w ∷ [] → w.item ≡ Call pred' args' → w.limit ≡ next
+pub start_state : (pred : PredKey) (args : List Term) (stack : List Waiting) (w : Waiting) (next : ℕ) (pred' : PredKey) (args' : List Term) → length args ≡ pred.arity → stack ≡ w ∷ [] → w.item ≡ Call pred' args'
     → pred' ≡ pred → args' ≡ args → next ≡ limit_in args → IsState (record { items = items_of stack; next = next }) × AreLimited (reverse stack)
-start_state pred args stack w next pred' args' many are is limit p a n =
+start_state pred args stack w next pred' args' many are is p a n =
     let item : w.item ≡ Call pred args = is ∙ (λ i. Call (p i) (a i)) in
     let one : AreItems next (w.item ∷ []) =
     subst (λ x. AreItems next (x ∷ [])) (sym item) (subst (λ m. AreItems m (Call pred args ∷ [])) (sym n) ((many, limits_above args), tt)) in
-    (subst (λ ws. AreItems next (items_of ws)) (sym are) one, subst (λ ws. AreLimited (reverse ws)) (sym are) (subst (λ m. AreItems m (w.item ∷ [])) (sym limit) one, tt))
+    (subst (λ ws. AreItems next (items_of ws)) (sym are) one, subst (λ ws. AreLimited (reverse ws)) (sym are) (tt, tt))
 
--- behind a builtin, where so many items of the stack stay
-pub builtin_is : (stack : List Waiting) (begin items its : List Item) (n next count least : ℕ) (s pairs : Bindings) → pairs ≡ s → ((v : ℕ) → v < least → bound_to pairs v ≡ Var v)
-    → AreItems least (items_of (take count stack)) → begin ≡ [] → items ≡ begin ++ items_under (bound_to s) (items_of (take (length stack - count) (drop count stack))) → its ≡ items → next ≡ past n pairs
-    → on_stack stack count its next ≡ behind_builtin (items_of stack) n s
-builtin_is stack begin items its n next count least s pairs same still below none e made is =
-    let all : items ++ items_of (take count stack) ≡ items_under (bound_to s) (items_of stack) =
-    behind_others (bound_to s) least count stack begin items (λ v lt. ap (λ p. bound_to p v) (sym same) ∙ still v lt) below (e ∙ ap (λ xs. begin ++ items_under (bound_to s) (items_of xs)) (take_rest stack count)) ∙ ap (λ xs. xs ++ items_under (bound_to s) (items_of stack)) none in
-    let whole : its ++ items_of (take count stack) ≡ items_under (bound_to s) (items_of stack) = ap (λ xs. xs ++ items_of (take count stack)) made ∙ all in
+-- what waits, and then a substitution, is brought to the stack
+pub brought_both : (waits s both : Bindings) (limit : ℕ) (stack : List Waiting) (count : ℕ) (top : List Waiting) → AreItems limit (items_of stack) → AreBoth waits s limit both → IsBrought both stack count top
+    → shown (with_top stack count top) ≡ items_under (bound_to s) (waiting_under waits stack)
+brought_both waits s both limit stack count top below h brought = brought.items ∙ items_both (bound_to waits) (bound_to s) (bound_to both) limit h (items_of stack) below
+
+-- behind a builtin
+pub builtin_is : (waits s both pairs : Bindings) (limit n next : ℕ) (stack : List Waiting) (count : ℕ) (top : List Waiting) → AreItems limit (items_of stack) → AreBoth waits s limit both → IsBrought both stack count top → pairs ≡ s
+    → next ≡ past n pairs → IsChange stack count top next × (on_stack stack count top next ≡ behind_builtin (waiting_under waits stack) n s)
+builtin_is waits s both pairs limit n next stack count top below h brought same is =
+    let whole : shown (with_top stack count top) ≡ items_under (bound_to s) (waiting_under waits stack) = brought_both waits s both limit stack count top below h brought in
     let number : next ≡ past n s = is ∙ ap (past n) same in
-    λ i. record { items = whole i; next = number i }
+    ((brought.bound, λ k. brought.limits), λ i. record { items = whole i; next = number i })
 
 module _ (c : Clause) (good : IsWellFormedClause c) (n : ℕ) (r : Bindings) (is : r ≡ raising n c.variables) where
   -- the renamed head
@@ -83,32 +87,59 @@ module _ (c : Clause) (good : IsWellFormedClause c) (n : ℕ) (r : Bindings) (is
         ∙ append_assoc (items_under (bound_to s) body) (mark ∷ []) (items_under (bound_to s) rest)
         ∙ sym (map-append (item_under (bound_to s)) body (Mark pred args args ∷ rest))
 
-    -- the same where so many items of the stack stay
-    pub goes_behind : (stack : List Waiting) (literals : List Literal) (begin goals marked after its : List Item) (pred' : PredKey) (was now : List Term) (count least : ℕ) (pairs : Bindings) → rest ≡ items_of stack → pairs ≡ s
-        → ((v : ℕ) → v < least → bound_to pairs v ≡ Var v) → AreItems least (items_of (take count stack)) → literals ≡ c.body → begin ≡ [] → goals ≡ begin ++ items_under (bound_to s) (goals_of (bound_to r) literals)
-        → pred' ≡ pred → was ≡ args → now ≡ map (under (bound_to s)) args → marked ≡ goals ++ Mark pred' was now ∷ [] → after ≡ marked ++ items_under (bound_to s) (items_of (take (length stack - count) (drop count stack))) → its ≡ after
-        → its ++ items_of (take count stack) ≡ (behind_head pred args rest n c s).items
-    goes_behind stack literals begin goals marked after its pred' was now count least pairs on same still below all none made p w e m a i =
-        let whole : after ++ items_of (take count stack) ≡ marked ++ items_under (bound_to s) (items_of stack) =
-        behind_others (bound_to s) least count stack marked after (λ v lt. ap (λ ps. bound_to ps v) (sym same) ∙ still v lt) below (a ∙ ap (λ xs. marked ++ items_under (bound_to s) (items_of xs)) (take_rest stack count)) in
-        let one : its ++ items_of (take count stack) ≡ marked ++ items_under (bound_to s) rest = ap (λ xs. xs ++ items_of (take count stack)) i ∙ whole ∙ ap (λ xs. marked ++ items_under (bound_to s) xs) (sym on) in
-        behind_is literals begin goals marked (its ++ items_of (take count stack)) pred' was now all none made p w e m one
+-- the stack where goals and another item stand in the place of the front
+module _ (stack top marked : List Waiting) (goals : List Item) (w : Waiting) (next count : ℕ) (are : top ≡ limited next goals) (e : marked ≡ top ++ w ∷ []) (many : count ≡ length stack) where
+  whole : with_top stack count marked ≡ limited next goals ++ (w ∷ reverse stack)
+  whole =
+      ap (λ ws. marked ++ reverse ws) (take_all count stack (omega arith)) ∙ ap (λ ws. ws ++ reverse stack) (e ∙ ap (λ ws. ws ++ w ∷ []) are)
+      ∙ append_assoc (limited next goals) (w ∷ []) (reverse stack)
+
+  pub clause_change : AreItems w.below.limit (items_of stack) → AreLimited (reverse stack) → IsChange stack count marked next
+  clause_change below limits = (
+    omega arith,
+    λ h.
+        subst (λ ws. AreLimited ws) (sym whole)
+        (limits_on next goals (w ∷ reverse stack) (subst (λ xs. AreItems next xs) (ap shown whole ∙ shown-limited next goals (w ∷ reverse stack)) h) (below, limits)),
+  )
+
+  pub clause_items : (waits s : Bindings) → AreItems w.below.limit (items_of stack) → AreBoth waits s w.below.limit w.below.bindings
+      → shown (with_top stack count marked) ≡ (goals ++ w.item ∷ []) ++ items_under (bound_to s) (waiting_under waits stack)
+  clause_items waits s below both =
+      ap shown whole
+      ∙ shown-limited next goals (w ∷ reverse stack)
+      ∙ ap (λ xs. goals ++ w.item ∷ xs) (items_both (bound_to waits) (bound_to s) (bound_to w.below.bindings) w.below.limit both (items_of stack) below)
+      ∙ sym (append_assoc goals (w.item ∷ []) (items_under (bound_to s) (waiting_under waits stack)))
+
+-- the stack behind a head
+pub clause_top_is : (c : Clause) (good : IsWellFormedClause c) (n : ℕ) (r : Bindings) → r ≡ raising n c.variables → (pred : PredKey) (args : List Term) (waits s : Bindings) (stack top marked : List Waiting) (literals : List Literal) (goals : List Item)
+    (below : Pending) (pred' : PredKey) (was now : List Term) (count limit : ℕ) → literals ≡ c.body → goals ≡ items_under (bound_to s) (goals_of (bound_to r) literals) → top ≡ limited (n + c.variables) goals
+    → marked ≡ top ++ record { item = Mark pred' was now; below = below } ∷ [] → count ≡ length stack → pred' ≡ pred → was ≡ args → now ≡ map (under (bound_to s)) args → below.limit ≡ limit → AreBoth waits s limit below.bindings
+    → AreItems limit (items_of stack) → AreLimited (reverse stack)
+    → IsChange stack count marked (n + c.variables) × (shown (with_top stack count marked) ≡ (behind_head pred args (waiting_under waits stack) n c s).items)
+clause_top_is c good n r is pred args waits s stack top marked literals goals below pred' was now count limit all made are e many p a m same both items limits =
+    let w : Waiting = record { item = Mark pred' was now; below = below } in
+    let next : ℕ = n + c.variables in
+    let rest : List Item = waiting_under waits stack in
+    let items' : AreItems below.limit (items_of stack) = subst (λ l. AreItems l (items_of stack)) (sym same) items in
+    let both' : AreBoth waits s below.limit below.bindings = subst (λ l. AreBoth waits s l below.bindings) (sym same) both in
+    let after = clause_items stack top marked goals w next count are e many waits s items' both' in
+    (clause_change stack top marked goals w next count are e many items' limits, behind_is c good n r is pred args rest s literals [] goals (goals ++ Mark pred' was now ∷ []) (shown (with_top stack count marked)) pred' was now all refl made p a m refl after)
 
 -- the outcome of a head that is renamed by the bindings
 pub unified_head : (head heads args : List Term) (o : Outcome) → head ≡ heads → UnifiesTo head args o → UnifiesTo heads args o
 unified_head head heads args o e h = subst (λ hs. UnifiesTo hs args o) e h
 
 -- The state behind a step that leaves so many items of the stack, and what its stack keeps.
-module _ (program : ProgramView) (formed : IsWellFormed program) (stack after : List Waiting) (n choice count next : ℕ) (its : List Item) (state : AreItems n (items_of stack)) (limits : AreLimited (reverse stack))
-    (leads : LeadsTo program (items_of stack) n choice (on_stack stack count its next)) (is : after ≡ take count stack ++ reverse (limited next its)) where
-  items_after : items_of after ≡ its ++ items_of (take count stack)
-  items_after = items_replaced stack after count next its is
+module _ (program : ProgramView) (formed : IsWellFormed program) (stack after : List Waiting) (n choice count : ℕ) (top : List Waiting) (next : ℕ) (state : AreItems n (items_of stack)) (change : IsChange stack count top next)
+    (leads : LeadsTo program (items_of stack) n choice (on_stack stack count top next)) (is : after ≡ take count stack ++ reverse top) where
+  reversed : reverse after ≡ with_top stack count top
+  reversed = top_replaced stack after count top is
 
-  whole_after : AreItems next (its ++ items_of (take count stack))
-  whole_after = leads_to_state program formed (items_of stack) n choice (on_stack stack count its next) state leads
+  whole_after : AreItems next (shown (with_top stack count top))
+  whole_after = leads_to_state program formed (items_of stack) n choice (on_stack stack count top next) state leads
 
   pub state_after : IsState (record { items = items_of after; next = next }) × AreLimited (reverse after)
-  state_after = (subst (λ xs. AreItems next xs) (sym items_after) whole_after, limits_replaced stack after count next its is limits whole_after)
+  state_after = (subst (λ ws. AreItems next (shown ws)) (sym reversed) whole_after, subst (λ ws. AreLimited ws) (sym reversed) (change.1 whole_after))
 
   pub step_after : LeadsTo program (items_of stack) n choice (record { items = items_of after; next = next })
-  step_after = subst (λ xs. LeadsTo program (items_of stack) n choice (record { items = xs; next = next })) (sym items_after) leads
+  step_after = subst (λ ws. LeadsTo program (items_of stack) n choice (record { items = shown ws; next = next })) (sym reversed) leads

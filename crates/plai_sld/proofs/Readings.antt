@@ -1,5 +1,5 @@
 -- What verdicts say of the rows of a table.
-use Rattle.std.proofs.Common.{◌≡◌, ◌∙◌, ◌⊎◌, Bool, true, false, not, Option, Some, List, refl, sym, ap, subst, inl, inr}
+use Rattle.std.proofs.Common.{◌≡◌, ◌⊎◌, Bool, true, not, Some, List, sym, ap, subst, inl, inr}
 use Rattle.std.specs.List.{list_all}
 use Rattle.plai_theory.specs.Words.{IsIn}
 use Rattle.plai_theory.proofs.Options.{by_test}

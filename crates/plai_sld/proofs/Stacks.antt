@@ -1,126 +1,89 @@
 -- The list of a run as a stack.
-use Rattle.std.proofs.Common.{◌≡◌, inl, inr, ℕ, ◌+◌, ◌<◌, ◌≤◌, cond, eqb, List, [], ◌∷◌, ◌++◌, map, length, take, drop, reverse, get_or, refl, sym, ap, subst, ◌∙◌, arith}
-use Rattle.std.proofs.lemmas.Bool.{ne_eqb}
-use Rattle.std.proofs.lemmas.List.{append_assoc, map-append, reverse-append, reverse-reverse, take-append-drop, take_at, drop_at, take_more}
+use Rattle.std.proofs.Common.{◌≡◌, ℕ, ◌+◌, ◌<◌, List, [], ◌∷◌, ◌++◌, map, length, take, reverse, refl, sym, ap, subst, ◌∙◌, arith}
+use Rattle.std.proofs.lemmas.List.{append_assoc, reverse-append, reverse-reverse, take_at, length_push}
 use Rattle.plai_terms.specs.Subst.{bound_to}
 use Rattle.plai_terms.specs.declared.term.Term.{Term, Var}
-use Rattle.plai_terms.specs.Substitution.{under, AreBelow}
+use Rattle.plai_terms.specs.Substitution.{under, then_also, AreBelow}
 use Rattle.plai_terms.specs.Unification.{Bindings}
-use Rattle.plai_terms.proofs.Under.{decided, under_same_all, under_Var_all}
+use Rattle.plai_terms.proofs.Under.{under_same_all, under_under_all, under_Var_all}
 use Rattle.plai_sld.specs.declared.item.Item.{Item}
 use Rattle.plai_sld.specs.declared.item.Item.TheVariants.{Call, Builtin, Mark}
 use Rattle.plai_sld.specs.declared.stack.Waiting.{Waiting}
 use Rattle.plai_sld.specs.Runs.{item_under, items_under}
-use Rattle.plai_sld.specs.Stacks.{limited, items_of, AreLimited}
+use Rattle.plai_sld.specs.Pending.{AreBoth}
+use Rattle.plai_sld.specs.Stacks.{shown, limited, items_of, AreLimited, with_top, IsBrought}
 use Rattle.plai_sld.specs.States.{IsItem, AreItems}
-use Rattle.plai_sld.proofs.States.{items_later}
 
--- one binding more, of a variable that isn't below
-pub unbound_more : (s : Bindings) (b : ℕ × Term) (v : ℕ) → bound_to s v ≡ Var v → v < b.0 → bound_to (s ++ b ∷ []) v ≡ Var v
-unbound_more [] b v e lt = ap (λ q. cond q b.1 (Var v)) (ne_eqb b.0 v (λ (e : b.0 ≡ v). omega arith))
-unbound_more (p ∷ ps) b v e lt =
-    elim (decided (eqb p.0 v)) [
-      | inl q ↦ ap (λ x. cond x p.1 (bound_to (ps ++ b ∷ []) v)) q ∙ sym (ap (λ x. cond x p.1 (bound_to ps v)) q) ∙ e
-      | inr q ↦ ap (λ x. cond x p.1 (bound_to (ps ++ b ∷ []) v)) q ∙ unbound_more ps b v (sym (ap (λ x. cond x p.1 (bound_to ps v)) q) ∙ e) lt
-    ]
+-- one substitution after another, on items whose variables are below the limit
+module _ (f g k : ℕ → Term) (m : ℕ) (both : (v : ℕ) → v < m → k v ≡ then_also f g v) where
+  terms_both : (ts : List Term) → AreBelow m ts → map (under k) ts ≡ map (under g) (map (under f) ts)
+  terms_both ts below = under_same_all k (then_also f g) ts (λ v o. both v (below v o)) ∙ sym (under_under_all f g ts)
 
--- a step of the loop over bindings
-pub unbound_on : (s : Bindings) (i : ℕ) (b : ℕ × Term) (least after : ℕ) → i < length s → b ≡ get_or s i b → ((v : ℕ) → v < least → bound_to (take i s) v ≡ Var v)
-    → after ≤ least → after ≤ b.0 → (v : ℕ) → v < after → bound_to (take (i + 1) s) v ≡ Var v
-unbound_on s i b least after lt is before le le' v below =
-    let cut : take (i + 1) s ≡ take i s ++ b ∷ [] = take_more s i b lt ∙ ap (λ x. take i s ++ x ∷ []) (sym is) in
-    ap (λ t. bound_to t v) cut ∙ unbound_more (take i s) b v (before v (omega arith)) (omega arith)
+  item_both : (x : Item) → IsItem m x → item_under k x ≡ item_under g (item_under f x)
+  item_both (Call pred args) (many, below) = ap (Call pred) (terms_both args below)
+  item_both (Builtin name args) below = ap (Builtin name) (terms_both args below)
+  item_both (Mark pred was now) (many, many', below, below') = ap (Mark pred was) (terms_both now below')
 
--- items without a variable that the substitution moves
-module _ (f : ℕ → Term) (m : ℕ) (still : (v : ℕ) → v < m → f v ≡ Var v) where
-  terms_still : (ts : List Term) → AreBelow m ts → map (under f) ts ≡ ts
-  terms_still ts below = under_same_all f Var ts (λ v o. still v (below v o)) ∙ under_Var_all ts
+  pub items_both : (xs : List Item) → AreItems m xs → items_under k xs ≡ items_under g (items_under f xs)
+  items_both [] h = refl
+  items_both (x ∷ xs) (h, i) = let p = item_both x h in let q = items_both xs i in cc
 
-  item_still : (x : Item) → IsItem m x → item_under f x ≡ x
-  item_still (Call pred args) (many, below) = ap (Call pred) (terms_still args below)
-  item_still (Builtin name args) below = ap (Builtin name) (terms_still args below)
-  item_still (Mark pred was now) (many, many', below, below') = ap (Mark pred was) (terms_still now below')
+-- items under no bindings
+terms_resting : (ts : List Term) → map (under (bound_to [])) ts ≡ ts
+terms_resting ts = under_same_all (bound_to []) Var ts (λ v o. refl) ∙ under_Var_all ts
 
-  pub items_still : (xs : List Item) → AreItems m xs → items_under f xs ≡ xs
-  items_still [] h = refl
-  items_still (x ∷ xs) (h, k) = let p = item_still x h in let q = items_still xs k in cc
+item_resting : (x : Item) → item_under (bound_to []) x ≡ x
+item_resting (Call pred args) = ap (Call pred) (terms_resting args)
+item_resting (Builtin name args) = ap (Builtin name) (terms_resting args)
+item_resting (Mark pred was now) = ap (Mark pred was) (terms_resting now)
 
--- the lists of two stacks, one on the other
-pub items_of-append : (below above : List Waiting) → items_of (below ++ above) ≡ items_of above ++ items_of below
-items_of-append below above = ap (map (λ (w : Waiting). w.item)) (reverse-append below above) ∙ map-append (λ (w : Waiting). w.item) (reverse above) (reverse below)
+items_resting : (xs : List Item) → items_under (bound_to []) xs ≡ xs
+items_resting [] = refl
+items_resting (x ∷ xs) = let p = item_resting x in let q = items_resting xs in cc
 
-items-limited : (n : ℕ) (xs : List Item) → map (λ (w : Waiting). w.item) (limited n xs) ≡ xs
-items-limited n [] = refl
-items-limited n (x ∷ xs) = ap (λ ys. x ∷ ys) (items-limited n xs)
+-- items behind which nothing waits
+pub shown-limited : (n : ℕ) (xs : List Item) (ws : List Waiting) → shown (limited n xs ++ ws) ≡ xs ++ shown ws
+shown-limited n [] ws = refl
+shown-limited n (x ∷ xs) ws = ap (λ ys. x ∷ ys) (items_resting (shown (limited n xs ++ ws)) ∙ shown-limited n xs ws)
 
-pub items_of-limited : (n : ℕ) (xs : List Item) → items_of (reverse (limited n xs)) ≡ xs
-items_of-limited n xs = ap (map (λ (w : Waiting). w.item)) (reverse-reverse (limited n xs)) ∙ items-limited n xs
+pub limits_on : (n : ℕ) (xs : List Item) (ws : List Waiting) → AreItems n (xs ++ shown ws) → AreLimited ws → AreLimited (limited n xs ++ ws)
+limits_on n [] ws h k = k
+limits_on n (x ∷ xs) ws (h, i) k = (subst (λ ys. AreItems n ys) (sym (shown-limited n xs ws)) i, limits_on n xs ws i k)
+
+-- a stack, from the front on
+pub front_first : (stack rest : List Waiting) (w : Waiting) → stack ≡ rest ++ w ∷ [] → reverse stack ≡ w ∷ reverse rest
+front_first stack rest w is = ap reverse is ∙ reverse-append rest (w ∷ [])
+
+pub front_is : (stack rest : List Waiting) (w : Waiting) → stack ≡ rest ++ w ∷ [] → items_of stack ≡ w.item ∷ items_under (bound_to w.below.bindings) (items_of rest)
+front_is stack rest w is = ap shown (front_first stack rest w is)
+
+-- the stack after a step
+pub top_replaced : (stack after : List Waiting) (count : ℕ) (top : List Waiting) → after ≡ take count stack ++ reverse top → reverse after ≡ with_top stack count top
+top_replaced stack after count top is = ap reverse is ∙ reverse-append (take count stack) (reverse top) ∙ ap (λ ws. ws ++ reverse (take count stack)) (reverse-reverse top)
 
 -- a step of the loop that puts items on a stack
-pub one_put : (n : ℕ) (stack after : List Waiting) (items left : List Item) (x : Item) → items ≡ left ++ x ∷ [] → after ≡ stack ++ record { item = x; limit = n } ∷ []
-    → after ++ reverse (limited n left) ≡ stack ++ reverse (limited n items)
-one_put n stack after items left x is e =
-    let w : Waiting = record { item = x; limit = n } in
-    let back : reverse (limited n items) ≡ w ∷ reverse (limited n left) =
-    ap (λ xs. reverse (limited n xs)) is ∙ ap reverse (map-append {A = Item} {B = Waiting} (λ y. record { item = y; limit = n }) left (x ∷ [])) ∙ reverse-append (limited n left) (w ∷ []) in
-    ap (λ xs. xs ++ reverse (limited n left)) e ∙ append_assoc stack (w ∷ []) (reverse (limited n left)) ∙ ap (λ xs. stack ++ xs) (sym back)
+pub one_put : (stack after items left : List Waiting) (w : Waiting) → items ≡ left ++ w ∷ [] → after ≡ stack ++ w ∷ [] → after ++ reverse left ≡ stack ++ reverse items
+one_put stack after items left w is e =
+    ap (λ ws. ws ++ reverse left) e ∙ append_assoc stack (w ∷ []) (reverse left) ∙ ap (λ ws. stack ++ ws) (sym (front_first items left w is))
 
--- a step of the loop that puts the items of a stack behind others
-pub one_under : (f : ℕ → Term) (items after : List Item) (stack before : List Waiting) (w : Waiting) (x : Item) → stack ≡ before ++ w ∷ [] → x ≡ item_under f w.item → after ≡ items ++ x ∷ []
-    → after ++ items_under f (items_of before) ≡ items ++ items_under f (items_of stack)
-one_under f items after stack before w x is made e =
-    let front : items_of stack ≡ w.item ∷ items_of before = ap items_of is ∙ items_of-append before (w ∷ []) in
-    ap (λ xs. xs ++ items_under f (items_of before)) e ∙ append_assoc items (x ∷ []) (items_under f (items_of before)) ∙ ap (λ y. items ++ y ∷ items_under f (items_of before)) made
-    ∙ ap (λ xs. items ++ items_under f xs) (sym front)
+-- an empty stack, and one with an item, under a substitution
+pub brought_none : (s : Bindings) (stack top : List Waiting) → stack ≡ [] → top ≡ [] → IsBrought s stack 0 top
+brought_none s stack top none e =
+    subst (λ ws. IsBrought s ws 0 top) (sym none) (subst (λ ws. IsBrought s [] 0 ws) (sym e) (record { bound = omega arith; items = refl; limits = tt }))
 
--- the limits of what is below, and of more items that stand on it
-limits_after : (xs ys : List Waiting) → AreLimited (xs ++ ys) → AreLimited ys
-limits_after [] ys h = h
-limits_after (x ∷ xs) ys h = limits_after xs ys h.1
-
-pub limits_below : (stack below above : List Waiting) → stack ≡ below ++ above → AreLimited (reverse stack) → AreLimited (reverse below)
-limits_below stack below above e h = limits_after (reverse above) (reverse below) (subst (λ xs. AreLimited xs) (ap reverse e ∙ reverse-append below above) h)
-
-limits_on : (n : ℕ) (xs : List Item) (ws : List Waiting) → AreItems n (xs ++ map (λ (w : Waiting). w.item) ws) → AreLimited ws → AreLimited (limited n xs ++ ws)
-limits_on n [] ws h k = k
-limits_on n (x ∷ xs) ws (h, i) k =
-    let same : map (λ (w : Waiting). w.item) (limited n xs ++ ws) ≡ xs ++ map (λ (w : Waiting). w.item) ws =
-    map-append (λ (w : Waiting). w.item) (limited n xs) ws ∙ ap (λ ys. ys ++ map (λ (w : Waiting). w.item) ws) (items-limited n xs) in
-    ((h, subst (λ ys. AreItems n ys) (sym same) i), limits_on n xs ws i k)
-
--- the stack after a step, and its limits
-module _ (stack after : List Waiting) (count n : ℕ) (xs : List Item) (is : after ≡ take count stack ++ reverse (limited n xs)) where
-  pub items_replaced : items_of after ≡ xs ++ items_of (take count stack)
-  items_replaced = ap items_of is ∙ items_of-append (take count stack) (reverse (limited n xs)) ∙ ap (λ ys. ys ++ items_of (take count stack)) (items_of-limited n xs)
-
-  pub limits_replaced : AreLimited (reverse stack) → AreItems n (xs ++ items_of (take count stack)) → AreLimited (reverse after)
-  limits_replaced h k =
-      let e : reverse after ≡ limited n xs ++ reverse (take count stack) =
-      ap reverse is ∙ reverse-append (take count stack) (reverse (limited n xs)) ∙ ap (λ ys. ys ++ reverse (take count stack)) (reverse-reverse (limited n xs)) in
-      subst (λ ws. AreLimited ws) (sym e) (limits_on n xs (reverse (take count stack)) k (limits_below stack (take count stack) (drop count stack) (sym (take-append-drop count stack)) h))
-
--- the part of a stack below its last item, and what it leaves
-pub part_below : (stack part before : List Waiting) (w : Waiting) → part ++ drop (length part) stack ≡ stack → part ≡ before ++ w ∷ [] → before ++ drop (length before) stack ≡ stack
-part_below stack part before w e is =
-    let more : stack ≡ before ++ (w ∷ drop (length part) stack) = sym e ∙ ap (λ xs. xs ++ drop (length part) stack) is ∙ append_assoc before (w ∷ []) (drop (length part) stack) in
-    ap (λ xs. before ++ xs) (ap (drop (length before)) more ∙ drop_at before (w ∷ drop (length part) stack) (length before) refl) ∙ sym more
-
--- such a part has no variable from the limit of its last item on
-pub part_within : (stack part before : List Waiting) (w : Waiting) (n : ℕ) → AreLimited (reverse stack) → part ++ drop (length part) stack ≡ stack → part ≡ before ++ w ∷ [] → w.limit ≤ n
-    → AreItems n (items_of (take (length part) stack))
-part_within stack part before w n h e is le =
-    let cut : take (length part) stack ≡ part = ap (take (length part)) (sym e) ∙ take_at part (drop (length part) stack) (length part) refl in
-    let limits : AreLimited (reverse part) = limits_below stack part (drop (length part) stack) (sym e) h in
-    let front : AreLimited (w ∷ reverse before) = subst (λ ws. AreLimited ws) (ap reverse is ∙ reverse-append before (w ∷ [])) limits in
-    subst (λ xs. AreItems n xs) (sym (ap items_of cut ∙ ap items_of is ∙ items_of-append before (w ∷ []))) (items_later w.limit n le (w.item ∷ items_of before) front.0)
-
--- What is left of a stack, and the rest of it changed behind others, are the whole of it changed behind these.
-pub behind_others : (f : ℕ → Term) (m count : ℕ) (stack : List Waiting) (marked items : List Item) → ((v : ℕ) → v < m → f v ≡ Var v) → AreItems m (items_of (take count stack))
-    → items ≡ marked ++ items_under f (items_of (drop count stack)) → items ++ items_of (take count stack) ≡ marked ++ items_under f (items_of stack)
-behind_others f m count stack marked items still below e =
-    let kept : List Item = items_of (take count stack) in
-    let changed : List Item = items_of (drop count stack) in
-    let whole : items_of stack ≡ changed ++ kept = ap items_of (sym (take-append-drop count stack)) ∙ items_of-append (take count stack) (drop count stack) in
-    let all : items_under f (items_of stack) ≡ items_under f changed ++ kept =
-    ap (items_under f) whole ∙ map-append (item_under f) changed kept ∙ ap (λ xs. items_under f changed ++ xs) (items_still f m still kept below) in
-    ap (λ xs. xs ++ kept) e ∙ append_assoc marked (items_under f changed) kept ∙ ap (λ xs. marked ++ xs) (sym all)
+pub brought_some : (s : Bindings) (stack rest : List Waiting) (w x : Waiting) (count : ℕ) (top : List Waiting) → AreLimited (reverse stack) → stack ≡ rest ++ w ∷ [] → x.item ≡ item_under (bound_to s) w.item
+    → x.below.limit ≡ w.below.limit → AreBoth w.below.bindings s w.below.limit x.below.bindings → count ≡ length rest → top ≡ x ∷ [] → IsBrought s stack count top
+brought_some s stack rest w x count top h is item limit both many e =
+    let limits : AreLimited (w ∷ reverse rest) = subst (λ ws. AreLimited ws) (front_first stack rest w is) h in
+    let longer : length stack ≡ length rest + 1 = ap length is ∙ length_push rest w in
+    let cut : take count stack ≡ rest = ap (take count) is ∙ take_at rest (w ∷ []) count (sym many) in
+    let whole : with_top stack count top ≡ x ∷ reverse rest = ap (λ ws. ws ++ reverse (take count stack)) e ∙ ap (λ ws. x ∷ reverse ws) cut in
+    let under_both : items_under (bound_to x.below.bindings) (items_of rest) ≡ items_under (bound_to s) (items_under (bound_to w.below.bindings) (items_of rest)) =
+    items_both (bound_to w.below.bindings) (bound_to s) (bound_to x.below.bindings) w.below.limit both (items_of rest) limits.0 in
+    record {
+      bound = omega arith;
+      items =
+          ap shown whole ∙ ap (λ y. y ∷ items_under (bound_to x.below.bindings) (items_of rest)) item ∙ ap (λ ys. item_under (bound_to s) w.item ∷ ys) under_both
+          ∙ ap (items_under (bound_to s)) (sym (front_is stack rest w is));
+      limits = subst (λ ws. AreLimited ws) (sym whole) (subst (λ m. AreItems m (items_of rest)) (sym limit) limits.0, limits.1);
+    }

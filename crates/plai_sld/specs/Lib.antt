@@ -3,6 +3,7 @@ pub mod Renaming
 pub mod Runs
 pub mod States
 pub mod Codes
+pub mod Pending
 pub mod Stacks
 pub mod Steps
 pub mod Fronts

@@ -3,9 +3,12 @@ ghost use Rattle.plai_terms.specs.Subst.{bound_to};
 ghost use Rattle.plai_terms.specs.Substitution.{then_also};
 ghost use Rattle.plai_sld.specs.declared.item.Item.{Item};
 ghost use Rattle.plai_sld.specs.Fronts.{IsFront};
+ghost use Rattle.plai_sld.specs.Stacks.{limited};
 ghost use Rattle.plai_sld.specs.Runs.{item_under, items_under, goal_of, goals_of};
 
 use crate::front::Front;
+use crate::pending::Pending;
+use crate::stack::Waiting;
 use crate::terms::{copy_terms, terms_under};
 use plai_clauses::{Literal, Target};
 use plai_terms::{Listed, Name, PredKey, Subst, Term};
@@ -67,20 +70,23 @@ pub(crate) fn front_of(item: &Item) -> Front<'_>
     }
 }
 
-// Puts the goals of a body under two substitutions, one after the other, behind the items.
+// Puts the goals of a body under two substitutions, one after the other, behind the items, with this limit.
 pub(crate) fn push_goals(
     alloc: Global,
     body: &[Literal],
     first: &Subst,
     second: &Subst,
-    items: &mut Vec<Item>,
+    limit: u64,
+    items: &mut Vec<Waiting>,
 ) -> Result<(), AllocError>
     ensures { IfOk result (λ _. items.new.items
-        ≡ items.old.items ++ items_under (bound_to second.now) (goals_of (bound_to first.now) body.now)) }
+        ≡ items.old.items ++ limited limit (items_under (bound_to second.now) (goals_of (bound_to first.now) body.now))) }
 {
     for literal in body {
         let goal = Item::of_literal(alloc, literal, first)?;
-        items.push(goal.under(alloc, second)?)?;
+        let item = goal.under(alloc, second)?;
+        let below = Pending::nothing(alloc, limit);
+        items.push(Waiting { item, below })?;
     }
     Ok(())
 }

@@ -5,6 +5,7 @@ mod front;
 mod item;
 mod laws;
 mod limits;
+mod pending;
 mod run;
 mod stack;
 mod stepped;

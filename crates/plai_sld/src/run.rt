@@ -9,12 +9,13 @@ ghost use Rattle.plai_sld.specs.States.{IsItem, AreItems};
 ghost use Rattle.plai_sld.specs.Steps.{greatest_number, Answers};
 ghost use Rattle.plai_sld.specs.declared.item.Item.TheVariants.{Call, Builtin};
 ghost use Rattle.plai_sld.specs.Fronts.{IsFront};
-ghost use Rattle.plai_sld.specs.Nexts.{IsNextAtClause, IsNextAtCall, IsNextAtBuiltin, IsNext};
+ghost use Rattle.plai_sld.specs.Nexts.{waiting_under, IsNextAtClause, IsNextAtCall, IsNextAtBuiltin, IsNext};
 
 use crate::front::Front;
 use crate::item::{Item, front_of, push_goals};
 use crate::limits::{limit_in, past};
-use crate::stack::{Waiting, push_under, replace_top, unbound_below, untouched};
+use crate::pending::Pending;
+use crate::stack::{Waiting, brought, replace_top};
 use crate::stepped::Stepped;
 use crate::terms::{copy_terms, raising, terms_under};
 use plai_builtins::meaning;
@@ -24,8 +25,8 @@ use std::alloc::{AllocError, Global};
 use std::marker::Model;
 
 /// A run of a program: what is left of it, goals and marks, and the number from which on variables are new. Contracts see
-/// these two. They are kept as a stack, with the front at its end, and each item has a limit of the variables of it and of all
-/// below it, so that a step changes only the items above the last whose limit is within the variables that the step binds.
+/// these two. They are kept as a stack, with the front at its end. What a step binds waits behind the front for the items
+/// below, and is put on one when it comes to the front itself, so that a step changes two items at the end and no more.
 #[derive(Drop)]
 pub struct Run {
     stack: Vec<Waiting>,
@@ -48,13 +49,12 @@ impl Model for Run {
     ghost invariant = { λ r. IsState (record { items = items_of r.stack.items; next = r.next }) × AreLimited (reverse r.stack.items) };
 }
 
-// What a step comes to: an answer that leaves the run as it is; a mark at the front that is to be taken away; or so many items
-// from the bottom that stay, the items before them, and the number from which on variables are new.
+// What a step comes to: an answer that leaves the run as it is; or so many items from the bottom that stay, those that come on
+// them, the first of which is to be the front, and the number from which on variables are new.
 #[derive(Drop)]
 enum Next {
     Stays(Stepped),
-    Shortens,
-    Goes(usize, Listed<Item>, u64),
+    Goes(usize, Listed<Waiting>, u64),
 }
 
 // The clause of that number, from 1.
@@ -73,39 +73,34 @@ fn next_at_clause(
     clause: &Clause,
     pred: &PredKey,
     args: &[Term],
-    rest: &[Waiting],
+    below: &Pending,
+    stack: &[Waiting],
     number: u32,
 ) -> Result<Next, AllocError>
     requires clause { IsWellFormedClause clause.now }
     requires arity { length clause.now.head ≡ pred.now.arity }
     requires goal { IsItem number (Call pred.now args.now) }
-    requires rest { AreLimited (reverse rest.now) }
+    requires below { AreItems below.now.limit (items_of stack.now) }
+    requires stack { AreLimited (reverse stack.now) }
     requires few { number ≤ greatest_number }
-    ensures { IfOk result (λ next. IsNextAtClause clause.now pred.now args.now rest.now number next) }
+    ensures { IfOk result (λ next. IsNextAtClause clause.now pred.now args.now below.now.bindings stack.now number next) }
 {
     let renaming = raising(alloc, number, clause.variables)?;
     let head = terms_under(alloc, clause.head.as_slice(), &renaming)?;
     match unify(alloc, &head, args)? {
         Outcome::Unified(bindings) => {
-            let pairs = bindings.as_slice();
-            let least = unbound_below(pairs, number as u64);
-            let count = untouched(rest, least);
-            let mut items = Vec::new(alloc);
-            push_goals(
-                alloc,
-                clause.body.as_slice(),
-                &renaming,
-                &bindings,
-                &mut items,
-            )?;
-            items.push(Item::Mark(
+            let next = number as u64 + clause.variables as u64;
+            let body = clause.body.as_slice();
+            let mut top = Vec::new(alloc);
+            push_goals(alloc, body, &renaming, &bindings, next, &mut top)?;
+            let item = Item::Mark(
                 pred.copy(alloc)?,
                 Listed::new(copy_terms(alloc, args)?),
                 Listed::new(terms_under(alloc, args, &bindings)?),
-            ))?;
-            push_under(alloc, &rest[count..], &bindings, &mut items)?;
-            let next = number as u64 + clause.variables as u64;
-            Ok(Next::Goes(count, Listed::new(items), next))
+            );
+            let below = below.then(alloc, &bindings)?;
+            top.push(Waiting { item, below })?;
+            Ok(Next::Goes(stack.len(), Listed::new(top), next))
         }
         Outcome::Clash | Outcome::Occurs => Ok(Next::Stays(Stepped::Clash)),
     }
@@ -117,19 +112,21 @@ fn next_at_call(
     program: &Program,
     pred: &PredKey,
     args: &[Term],
-    rest: &[Waiting],
+    below: &Pending,
+    stack: &[Waiting],
     number: u32,
     choice: u64,
 ) -> Result<Next, AllocError>
     requires goal { IsItem number (Call pred.now args.now) }
-    requires rest { AreLimited (reverse rest.now) }
+    requires below { AreItems below.now.limit (items_of stack.now) }
+    requires stack { AreLimited (reverse stack.now) }
     requires few { number ≤ greatest_number }
-    ensures { IfOk result (λ next. IsNextAtCall program.now pred.now args.now rest.now number choice next) }
+    ensures { IfOk result (λ next. IsNextAtCall program.now pred.now args.now below.now.bindings stack.now number choice next) }
 {
     program.is_program();
     match numbered_clause(program.clauses_of(pred), choice) {
         None => Ok(Next::Stays(Stepped::NoClause)),
-        Some(clause) => next_at_clause(alloc, clause, pred, args, rest, number),
+        Some(clause) => next_at_clause(alloc, clause, pred, args, below, stack, number),
     }
 }
 
@@ -138,24 +135,23 @@ fn next_at_builtin(
     alloc: Global,
     name: &Name,
     args: &[Term],
-    rest: &[Waiting],
+    below: &Pending,
+    stack: &[Waiting],
     number: u32,
 ) -> Result<Next, AllocError>
     requires goal { IsItem number (Builtin name.now args.now) }
-    requires rest { AreLimited (reverse rest.now) }
+    requires below { AreItems below.now.limit (items_of stack.now) }
+    requires stack { AreLimited (reverse stack.now) }
     requires few { number ≤ greatest_number }
-    ensures { IfOk result (λ next. IsNextAtBuiltin name.now args.now rest.now number next) }
+    ensures { IfOk result (λ next. IsNextAtBuiltin name.now args.now below.now.bindings stack.now number next) }
 {
     match meaning(alloc, name, args, number)? {
         None => Ok(Next::Stays(Stepped::Clash)),
         Some(bindings) => {
-            let pairs = bindings.as_slice();
-            let least = unbound_below(pairs, number as u64);
-            let count = untouched(rest, least);
-            let mut items = Vec::new(alloc);
-            push_under(alloc, &rest[count..], &bindings, &mut items)?;
-            let next = past(alloc, number as u64, pairs)?;
-            Ok(Next::Goes(count, Listed::new(items), next))
+            let below = below.then(alloc, &bindings)?;
+            let (count, top) = brought(alloc, stack, &below.bindings)?;
+            let next = past(alloc, number as u64, bindings.as_slice())?;
+            Ok(Next::Goes(count, top, next))
         }
     }
 }
@@ -164,27 +160,34 @@ fn next_at_builtin(
 fn next_at_front(
     alloc: Global,
     program: &Program,
-    first: &Item,
-    rest: &[Waiting],
+    front: &Waiting,
+    stack: &[Waiting],
     number: u64,
     choice: u64,
 ) -> Result<Next, AllocError>
-    requires first { IsItem number first.now }
-    requires rest { AreLimited (reverse rest.now) }
-    ensures { IfOk result (λ next. IsNext program.now (first.now ∷ items_of rest.now) rest.now number choice next) }
+    requires front { IsItem number front.now.item }
+    requires below { AreItems front.now.below.limit (items_of stack.now) }
+    requires stack { AreLimited (reverse stack.now) }
+    ensures { IfOk result (λ next. IsNext program.now (front.now.item ∷ waiting_under front.now.below.bindings stack.now) stack.now number choice next) }
 {
-    match first {
-        Item::Mark(_, _, _) => Ok(Next::Shortens),
+    let below = &front.below;
+    match &front.item {
+        Item::Mark(_, _, _) => {
+            let (count, top) = brought(alloc, stack, &below.bindings)?;
+            Ok(Next::Goes(count, top, number))
+        }
         Item::Call(pred, args) => {
             if number > GREATEST_NUMBER {
                 return Ok(Next::Stays(Stepped::Spent));
             }
+            let args = args.as_slice();
             next_at_call(
                 alloc,
                 program,
                 pred,
-                args.as_slice(),
-                rest,
+                args,
+                below,
+                stack,
                 number as u32,
                 choice,
             )
@@ -193,7 +196,7 @@ fn next_at_front(
             if number > GREATEST_NUMBER {
                 return Ok(Next::Stays(Stepped::Spent));
             }
-            next_at_builtin(alloc, name, args.as_slice(), rest, number as u32)
+            next_at_builtin(alloc, name, args.as_slice(), below, stack, number as u32)
         }
     }
 }
@@ -212,7 +215,7 @@ fn next_at(
 {
     match stack.split_last() {
         None => Ok(Next::Stays(Stepped::Done)),
-        Some((front, rest)) => next_at_front(alloc, program, &front.item, rest, number, choice),
+        Some((front, rest)) => next_at_front(alloc, program, front, rest, number, choice),
     }
 }
 
@@ -235,7 +238,8 @@ impl Run {
         let _ = program;
         let next = limit_in(alloc, args)?;
         let item = Item::Call(pred.copy(alloc)?, Listed::new(copy_terms(alloc, args)?));
-        let stack = vec![in alloc; Waiting { item, limit: next }]?;
+        let below = Pending::nothing(alloc, 0);
+        let stack = vec![in alloc; Waiting { item, below }]?;
         Ok(Run { stack, next })
     }
 
@@ -266,12 +270,8 @@ impl Run {
         program.is_program();
         match next_at(alloc, program, &self.stack, self.next, choice)? {
             Next::Stays(stepped) => Ok(stepped),
-            Next::Shortens => {
-                let _ = self.stack.pop();
-                Ok(Stepped::Moved)
-            }
-            Next::Goes(count, items, next) => {
-                replace_top(&mut self.stack, count, items.into_vec(), next)?;
+            Next::Goes(count, top, next) => {
+                replace_top(&mut self.stack, count, top.into_vec())?;
                 self.next = next;
                 Ok(Stepped::Moved)
             }
