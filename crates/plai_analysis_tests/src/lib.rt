@@ -1,0 +1,7 @@
+//! Tests of the analysis by legal work, beside the plain engine by rounds.
+#![tactic(auto)]
+
+#[cfg(test)]
+mod cases;
+#[cfg(test)]
+mod engines;
