@@ -48,7 +48,8 @@ module _ {V : Type 0} (before after : ProgramView) (rows : List (TableRow V)) wh
       (λ j same. (
         same,
         subst (LosesAt before after rows) (sym same) (loses_is row r e
-            (λ p. none (subst (λ (xs : List Clause). IsPrefix xs new) (sym f) (subst (λ (ys : List Clause). IsPrefix (clauses_of before r.name.pred) ys) (sym g) p)))),
+            (λ p. none (subst (λ (xs : List Clause). IsPrefix xs new) (sym f)
+            (subst (λ (ys : List Clause). IsPrefix (clauses_of before r.name.pred) ys) (sym g) p)))),
       ))
       (λ j l. l.0)
 

@@ -4,6 +4,8 @@
 
 mod comparing;
 mod gathering;
+mod removal;
 
 pub use comparing::lost_clauses;
 pub use gathering::lost_rows;
+pub use removal::remove_rows;
