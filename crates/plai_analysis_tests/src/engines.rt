@@ -1,20 +1,36 @@
-// A program analysed by each of the two engines.
+// A program of text, and a program analysed by each of the two engines.
 ghost use Rattle.std.specs.Prelude.{◌≡◌, ◌<◌};
 
 use plai_base::Steps;
 use plai_clauses::Program;
-use plai_domain::{Domain, Tally};
+use plai_domain::{Domain, Tally, Work};
+use plai_modules::{NamedText, Text, load};
 use plai_render::TextTable;
 use plai_rounds::AnalyseFail;
+use plai_terms::Listed;
 use std::alloc::Global;
 use std::marker::Brand;
 use std::sync::ledger::{Blank, Ledger};
+use std::test::Fail;
 
-fn work_counted<D: Domain, L: Ledger>(
+/// The program of a file, at most a million bytes.
+pub(crate) fn loaded(alloc: Global, text: &str) -> Result<Program, Fail> {
+    if text.len() > 1_000_000 {
+        return Err(Fail::new("a long file"));
+    }
+    let file = NamedText {
+        name: Text::new(String::from_str(alloc, "a.pl")?),
+        text: Listed::new(Vec::from_slice(alloc, text.as_bytes())?),
+    };
+    Ok(load(alloc, [file].as_slice())?)
+}
+
+fn work_counted<D: Domain, W: Work, L: Ledger>(
     alloc: Global,
     domain: &D,
     program: &Program,
     limit: u64,
+    work: &mut W,
     blank: Blank,
 ) -> Result<TextTable, AnalyseFail>
     requires name { blank.name ≡ L.name }
@@ -22,7 +38,18 @@ fn work_counted<D: Domain, L: Ledger>(
     requires some { 0 < blank.parts }
 {
     let mut steps = Steps::<L>::new(blank);
-    plai_analysis::analyse(alloc, domain, program, limit, &mut Tally::new(), &mut steps)
+    plai_analysis::analyse(alloc, domain, program, limit, work, &mut steps)
+}
+
+/// By legal work, of which this object is told.
+pub(crate) fn by_told_work<D: Domain, W: Work>(
+    alloc: Global,
+    domain: &D,
+    program: &Program,
+    limit: u64,
+    work: &mut W,
+) -> Result<TextTable, AnalyseFail> {
+    work_counted::<D, W, Brand>(alloc, domain, program, limit, work, Blank::new(1))
 }
 
 /// By legal work.
@@ -32,7 +59,7 @@ pub(crate) fn by_work<D: Domain>(
     program: &Program,
     limit: u64,
 ) -> Result<TextTable, AnalyseFail> {
-    work_counted::<D, Brand>(alloc, domain, program, limit, Blank::new(1))
+    by_told_work(alloc, domain, program, limit, &mut Tally::new())
 }
 
 fn rounds_counted<D: Domain, L: Ledger>(

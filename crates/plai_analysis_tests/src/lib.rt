@@ -5,3 +5,7 @@
 mod cases;
 #[cfg(test)]
 mod engines;
+#[cfg(test)]
+mod limits;
+#[cfg(test)]
+mod logs;
