@@ -16,6 +16,7 @@ pub mod Back
 pub mod Refine
 pub mod Values
 pub mod Compose
+pub mod Growth
 pub mod Properties
 pub mod Rank
 pub mod Placed

@@ -2,6 +2,7 @@ pub mod Groups
 pub mod Shares
 pub mod Sides
 pub mod Calls
+pub mod Growth
 pub mod Properties
 pub mod Rank
 pub mod Described

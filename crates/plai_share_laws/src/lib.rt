@@ -3,6 +3,7 @@
 
 ghost use Rattle.std.specs.Prelude.{◌≡◌, ℕ, ◌+◌, ◌++◌, ◌||◌, true, false, List, [], ◌∷◌, length, map};
 ghost use Rattle.plai_base.specs.Mask.{all_true};
+ghost use Rattle.plai_base.specs.Sets.{IsWithin};
 ghost use Rattle.plai_terms.specs.declared.abs.Abs.{Abs};
 ghost use Rattle.plai_terms.specs.declared.term.Term.{Term};
 ghost use Rattle.plai_domain.specs.declared.action.Action.{Action};
@@ -12,8 +13,9 @@ ghost use Rattle.plai_domain.specs.Laws.{IsLawful};
 ghost use Rattle.plai_domain.specs.Soundness.{IsSound};
 ghost use Rattle.plai_domain.specs.Printed.{IsPrinted};
 ghost use Rattle.plai_share_laws.specs.Groups.{rel, star, bin};
-ghost use Rattle.plai_share_laws.specs.Shares.{Shares, Side, slots_of, is_free, unify, unify_formed, answered, havocked, widen_by, sizes};
-ghost use Rattle.plai_share_laws.specs.Calls.{each_formed, acted_formed, extend, raise};
+ghost use Rattle.plai_share_laws.specs.Shares.{Shares, Side, slots_of, is_free, unify, unify_formed, answered, answered_formed, havocked, widen_by, sizes};
+ghost use Rattle.plai_share_laws.specs.Calls.{each_formed, acted_formed, extend, raise, enter_formed, extend_formed, back_formed, refine_formed};
+ghost use Rattle.plai_share_laws.specs.Growth.{IsSmaller, AreContained};
 ghost use Rattle.plai_share_laws.specs.Sharing.{shares_of, sides_of, sharing};
 
 /// Sharing and freeness has the laws that a fixpoint over an abstract domain needs: its order is one, a join is the least
@@ -60,4 +62,27 @@ pub fn sharing_forms_sets()
         ≡ sizes (each_formed n sides (widen_by (length sides) (shares_of s.abs)) ++ acted_formed n action v) }
     ensures havoc { (n slots : ℕ) (v : Shares) → let a = raise n slots in
         acted_formed n (action.Havoc slots) v ≡ star (rel a v.groups) ∷ (havocked a v).groups ∷ [] }
+{}
+
+/// Each set that an operation forms from a smaller value or state is contained in one that it forms from a larger one: in
+/// the same unification, extension by an answer, or action, since each of these begins where the one before it ended, with
+/// a smaller state too. So it is of `enter`, `call`, `back` and `refine` as a whole.
+pub fn formed_sets_grow()
+    ensures order { (n : ℕ) (a b : Abs) → sharing.Leq n a b → IsSmaller (shares_of a) (shares_of b) }
+    ensures widened { (m : ℕ) (v w : Shares) → IsSmaller v w → IsSmaller (widen_by m v) (widen_by m w) }
+    ensures extended { (n : ℕ) (args : List Side) (v w : Shares) → IsSmaller v w → IsSmaller (extend n args v) (extend n args w) }
+    ensures unify { (x t : Side) (v w : Shares) → IsSmaller v w
+        → AreContained (unify_formed x t v) (unify_formed x t w) × IsSmaller (unify x t v) (unify x t w) }
+    ensures answered { (a : ℕ) (answer larger : List ℕ) (v w : Shares) → IsWithin answer larger → IsSmaller v w
+        → AreContained (answered_formed a answer v) (answered_formed a larger w) }
+    ensures acted { (n : ℕ) (action : Action) (v w : Shares) → IsSmaller v w
+        → AreContained (acted_formed n action v) (acted_formed n action w) }
+    ensures enter { (variables : ℕ) (args : List Side) (v w : Shares) → IsSmaller v w
+        → AreContained (enter_formed variables args v) (enter_formed variables args w) }
+    ensures call { (n : ℕ) (args : List Side) (v w : Shares) → IsSmaller v w
+        → AreContained (extend_formed n args v) (extend_formed n args w) }
+    ensures back { (n : ℕ) (args : List Side) (v w answer larger : Shares) → IsSmaller v w → IsSmaller answer larger
+        → AreContained (back_formed n args v answer) (back_formed n args w larger) }
+    ensures refine { (n : ℕ) (args : List Side) (action : Action) (v w : Shares) → IsSmaller v w
+        → AreContained (refine_formed n args action v) (refine_formed n args action w) }
 {}
