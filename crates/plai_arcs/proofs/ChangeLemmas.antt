@@ -1,5 +1,29 @@
 -- Changes of lists at places.
-use Rattle.std.proofs.Common.{◌≡◌, ℕ, ◌+◌, ◌-◌, ◌<◌, ◌≤◌, Bool, true, false, cond, ◌&&◌, nat_eq, List, [], length, slice_set, slice_index_or, refl, sym, ap, ◌∙◌, subst, arith}
+use Rattle.std.proofs.Common.{
+  ◌≡◌,
+  ℕ,
+  ◌+◌,
+  ◌-◌,
+  ◌<◌,
+  ◌≤◌,
+  Bool,
+  true,
+  false,
+  cond,
+  ◌&&◌,
+  nat_eq,
+  List,
+  [],
+  length,
+  slice_set,
+  slice_index_or,
+  refl,
+  sym,
+  ap,
+  ◌∙◌,
+  subst,
+  arith,
+}
 use Rattle.std.proofs.lemmas.Bool.{eqb-true}
 use Rattle.plai_arcs.specs.declared.change.Change.{Change}
 use Rattle.plai_arcs.specs.declared.change.Change.TheVariants.{Push, Take, Rename, Mark}
@@ -42,7 +66,8 @@ room_written f xs i a e n h less k = subst (λ m. at f 0 xs k ≤ m + cond (nat_
 
 -- the list of a clause of a row, changed by g
 pub calls_written : (rows : List RowCalls) (row clause : ℕ) (new e : RowCalls) (g : List ℕ → List ℕ) → row < length rows
-    → ((c : ℕ) → calls_in new.clauses.items c ≡ cond (nat_eq c clause) (g (calls_in (slice_index_or rows row e).clauses.items c)) (calls_in (slice_index_or rows row e).clauses.items c))
+    → ((c : ℕ) → calls_in new.clauses.items c
+    ≡ cond (nat_eq c clause) (g (calls_in (slice_index_or rows row e).clauses.items c)) (calls_in (slice_index_or rows row e).clauses.items c))
     → (r c : ℕ) → calls_at (slice_set rows row new) r c ≡ cond (nat_eq r row && nat_eq c clause) (g (calls_at rows r c)) (calls_at rows r c)
 calls_written rows row clause new e g h says r c =
     at_written (λ (q : RowCalls). calls_in q.clauses.items c) [] rows row new e (λ xs. cond (nat_eq c clause) (g xs) xs) h (says c) r
@@ -69,7 +94,8 @@ can_there f g h eq change xs i e inside can =
     (subst (λ ys. CanChange eq change (h (at g 0 xs i)) ys) (at_index f [] xs i e inside) can)
 
 -- past the end
-module _ {A T : Type 0} (f : A → List T) (g : A → ℕ) (h : ℕ → ℕ) (eq : T → T → Bool) (change : Change T) (xs : List A) (i : ℕ) (past : length xs ≤ i) (none : h 0 ≡ 0)
+module _ {A T : Type 0} (f : A → List T) (g : A → ℕ) (h : ℕ → ℕ) (eq : T → T → Bool) (change : Change T) (xs : List A) (i : ℕ) (past : length xs ≤ i)
+    (none : h 0 ≡ 0)
     (can : CanChange eq change (h (at g 0 xs i)) (at f [] xs i)) where
   empty : StaysEmpty eq change
   empty = stays_empty eq change
@@ -93,14 +119,16 @@ pub no_less_by : (m n : ℕ) → m ≤ m + n
 no_less_by m n = omega arith
 
 -- past the last row
-pub calls_past : (change : Change ℕ) (rows : List RowCalls) (row clause : ℕ) → length rows ≤ row → CanChange nat_eq change (call_room rows row clause - 1) (calls_at rows row clause)
+pub calls_past : (change : Change ℕ) (rows : List RowCalls) (row clause : ℕ) → length rows ≤ row
+    → CanChange nat_eq change (call_room rows row clause - 1) (calls_at rows row clause)
     → (r c : ℕ) → calls_at rows r c ≡ cond (nat_eq r row && nat_eq c clause) (changed change 0 (calls_at rows r c)) (calls_at rows r c)
 calls_past change rows row clause past can r c = by (nat_eq r row) refl
   where
     none : StaysEmpty nat_eq change
     none = stays_empty nat_eq change
         (subst (λ n. CanChange nat_eq change (n - 1) []) (at_past (λ (q : RowCalls). clause_room q.clauses.items clause) 0 rows row past)
-        (subst (λ ys. CanChange nat_eq change (call_room rows row clause - 1) ys) (at_past (λ (q : RowCalls). calls_in q.clauses.items clause) [] rows row past) can))
+        (subst (λ ys. CanChange nat_eq change (call_room rows row clause - 1) ys)
+        (at_past (λ (q : RowCalls). calls_in q.clauses.items clause) [] rows row past) can))
 
     there : nat_eq r row ≡ true → calls_at rows r c ≡ []
     there e = at_past (λ (q : RowCalls). calls_in q.clauses.items c) [] rows r (subst (λ j. length rows ≤ j) (sym (eqb-true r row e)) past)

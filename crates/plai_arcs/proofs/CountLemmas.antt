@@ -1,5 +1,38 @@
 -- How often items stand in a list, under changes.
-use Rattle.std.proofs.Common.{◌≡◌, ℕ, zero, suc, ◌+◌, ◌-◌, ◌<◌, ◌≤◌, Bool, true, false, ◌&&◌, ◌||◌, nat_eq, nat_lt, List, [], ◌∷◌, ◌++◌, length, take, drop, slice_set, slice_index_or, refl, sym, ap, ◌∙◌, subst, add-one, zero-add, arith}
+use Rattle.std.proofs.Common.{
+  ◌≡◌,
+  ℕ,
+  zero,
+  suc,
+  ◌+◌,
+  ◌-◌,
+  ◌<◌,
+  ◌≤◌,
+  Bool,
+  true,
+  false,
+  ◌&&◌,
+  ◌||◌,
+  nat_eq,
+  nat_lt,
+  List,
+  [],
+  ◌∷◌,
+  ◌++◌,
+  length,
+  take,
+  drop,
+  slice_set,
+  slice_index_or,
+  refl,
+  sym,
+  ap,
+  ◌∙◌,
+  subst,
+  add-one,
+  zero-add,
+  arith,
+}
 use Rattle.std.specs.List.{count_by, list_any, swap_remove}
 use Rattle.std.proofs.lemmas.Bool.{eqb-true, eq-eqb}
 use Rattle.std.proofs.lemmas.List.Sums.{sum_by-cons, sum_by_push, sum_by-set, sum_by-swap_remove, sum_by_more}
@@ -35,10 +68,12 @@ module _ {T : Type 0} (eq : T → T → Bool) (exact : (x y : T) → eq x y ≡ 
   -- a found item taken away
   pub count_taken : (t : T → Bool) (x : T) (xs : List T) (i : ℕ) → at (eq x) false xs i ≡ true → count_by t (swap_remove xs i x) + one_if (t x) ≡ count_by t xs
   count_taken t x xs i h =
-      ap (λ y. count_by t (swap_remove xs i x) + one_if (t y)) (sym (found_is x xs i x h)) ∙ sum_by-swap_remove (λ y. one_if (t y)) xs i x (found_inside x xs i h)
+      ap (λ y. count_by t (swap_remove xs i x) + one_if (t y)) (sym (found_is x xs i x h))
+      ∙ sum_by-swap_remove (λ y. one_if (t y)) xs i x (found_inside x xs i h)
 
   -- a found item replaced
-  pub count_renamed : (t : T → Bool) (x y : T) (xs : List T) (i : ℕ) → at (eq x) false xs i ≡ true → count_by t (slice_set xs i y) + one_if (t x) ≡ count_by t xs + one_if (t y)
+  pub count_renamed : (t : T → Bool) (x y : T) (xs : List T) (i : ℕ) → at (eq x) false xs i ≡ true
+      → count_by t (slice_set xs i y) + one_if (t x) ≡ count_by t xs + one_if (t y)
   count_renamed t x y xs i h =
       ap (λ z. count_by t (slice_set xs i y) + one_if (t z)) (sym (found_is x xs i x h)) ∙ sum_by-set (λ z. one_if (t z)) xs i y x (found_inside x xs i h)
 
@@ -46,7 +81,8 @@ module _ {T : Type 0} (eq : T → T → Bool) (exact : (x y : T) → eq x y ≡ 
 pub count_pushed : {T : Type 0} (t : T → Bool) (x : T) (xs : List T) → count_by t (xs ++ x ∷ []) ≡ count_by t xs + one_if (t x)
 count_pushed t x xs = sum_by_push (λ y. one_if (t y)) xs x
 
-pub count_more : {T : Type 0} (t : T → Bool) (xs : List T) (i : ℕ) (d : T) → i < length xs → count_by t (take (i + 1) xs) ≡ count_by t (take i xs) + one_if (t (slice_index_or xs i d))
+pub count_more : {T : Type 0} (t : T → Bool) (xs : List T) (i : ℕ) (d : T) → i < length xs
+    → count_by t (take (i + 1) xs) ≡ count_by t (take i xs) + one_if (t (slice_index_or xs i d))
 count_more t xs i d h = sum_by_more (λ y. one_if (t y)) xs i d h
 
 -- all of them
@@ -64,7 +100,8 @@ count_goes_on t (x ∷ xs) (suc i) h = let k : i < length xs = count_goes_on t x
 count_passes_one : {T : Type 0} (t : T → Bool) (xs : List T) (i : ℕ) → at t false xs i ≡ false → 0 < count_by t (drop i xs) → 0 < count_by t (drop (suc i) xs)
 count_passes_one t [] zero fails h = h
 count_passes_one t [] (suc i) fails h = h
-count_passes_one t (x ∷ xs) zero fails h = subst (λ n. 0 < n) (sum_by-cons (λ y. one_if (t y)) x xs ∙ ap (λ b. one_if b + count_by t xs) fails ∙ zero-add (count_by t xs)) h
+count_passes_one t (x ∷ xs) zero fails h =
+    subst (λ n. 0 < n) (sum_by-cons (λ y. one_if (t y)) x xs ∙ ap (λ b. one_if b + count_by t xs) fails ∙ zero-add (count_by t xs)) h
 count_passes_one t (x ∷ xs) (suc i) fails h = count_passes_one t xs i fails h
 
 pub count_passes : {T : Type 0} (t : T → Bool) (xs : List T) (i : ℕ) → at t false xs i ≡ false → 0 < count_by t (drop i xs) → 0 < count_by t (drop (i + 1) xs)
@@ -115,7 +152,8 @@ no_items (x ∷ xs) h = absurd (omega arith)
 
 pub stands_at : {T : Type 0} (t : T → Bool) (xs : List T) (i : ℕ) (d : T) → i < length xs → t (slice_index_or xs i d) ≡ true → 0 < count_by t xs
 stands_at t [] i d h e = absurd (omega arith)
-stands_at t (x ∷ xs) zero d h e = subst (λ n. 0 < n) (sym (sum_by-cons (λ y. one_if (t y)) x xs)) (subst (λ b. 0 < one_if b + count_by t xs) (sym e) (omega arith))
+stands_at t (x ∷ xs) zero d h e = subst (λ n. 0 < n) (sym (sum_by-cons (λ y. one_if (t y)) x xs))
+    (subst (λ b. 0 < one_if b + count_by t xs) (sym e) (omega arith))
 stands_at t (x ∷ xs) (suc i) d h e =
     let more : 0 < count_by t xs = stands_at t xs i d (omega arith) e in
     subst (λ n. 0 < n) (sym (sum_by-cons (λ y. one_if (t y)) x xs)) (omega arith)

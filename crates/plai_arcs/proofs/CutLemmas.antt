@@ -1,5 +1,37 @@
 -- Calls taken away at both ends.
-use Rattle.std.proofs.Common.{◌≡◌, ℕ, zero, suc, ◌+◌, ◌<◌, ◌≤◌, ◌≢◌, ◌⊎◌, inl, inr, Bool, true, false, cond, ◌&&◌, nat_eq, Option, None, Some, IfNone, List, [], length, refl, sym, ap, ◌∙◌, subst, add-zero, arith}
+use Rattle.std.proofs.Common.{
+  ◌≡◌,
+  ℕ,
+  zero,
+  suc,
+  ◌+◌,
+  ◌<◌,
+  ◌≤◌,
+  ◌≢◌,
+  ◌⊎◌,
+  inl,
+  inr,
+  Bool,
+  true,
+  false,
+  cond,
+  ◌&&◌,
+  nat_eq,
+  Option,
+  None,
+  Some,
+  IfNone,
+  List,
+  [],
+  length,
+  refl,
+  sym,
+  ap,
+  ◌∙◌,
+  subst,
+  add-zero,
+  arith,
+}
 use Rattle.std.specs.List.{count_by, swap_remove}
 use Rattle.std.proofs.lemmas.Bool.{eqb-true, eq-eqb}
 use Rattle.plai_arcs.specs.declared.row_calls.RowCalls.{RowCalls}
@@ -39,7 +71,8 @@ and_true true false h = cc
 and_true false b h = cc
 
 -- a clause of a row that calls none
-pub none_called : (rows : List RowCalls) (row clause : ℕ) → calls_at rows row clause ≡ [] → (r c q : ℕ) → (nat_eq r row && nat_eq c clause) ≡ true → call_count rows r c q ≡ 0
+pub none_called : (rows : List RowCalls) (row clause : ℕ) → calls_at rows row clause ≡ [] → (r c q : ℕ) → (nat_eq r row && nat_eq c clause) ≡ true
+    → call_count rows r c q ≡ 0
 none_called rows row clause e r c q h =
     let t : (nat_eq r row ≡ true) × (nat_eq c clause ≡ true) = and_true (nat_eq r row) (nat_eq c clause) h in
     ap (λ n. call_count rows n c q) (eqb-true r row t.0) ∙ ap (λ n. call_count rows row n q) (eqb-true c clause t.1) ∙ ap (λ xs. count_by (nat_eq q) xs) e
@@ -55,23 +88,27 @@ itself_too a = ap (λ t. one_if (t && true)) (eq-eqb a a refl)
 
 module _ (rows new : List RowCalls) (callers after : List Callers) (row clause called : ℕ)
     (calls : (r c : ℕ) (t : ℕ → Bool) → count_by t (calls_at new r c) + one_if ((nat_eq r row && nat_eq c clause) && t called) ≡ count_by t (calls_at rows r c))
-    (ends : (q : ℕ) (t : ℕ × ℕ → Bool) → count_by t (callers_at after q) + one_if (nat_eq q called && t (row, clause)) ≡ count_by t (callers_at callers q)) where
+    (ends : (q : ℕ) (t : ℕ × ℕ → Bool) → count_by t (callers_at after q) + one_if (nat_eq q called && t (row, clause))
+    ≡ count_by t (callers_at callers q)) where
   pub cut_linked : AreLinked rows callers → AreLinked new after
   cut_linked linked = record {
     agree = λ r c q. same_less (caller_count after q r c) (call_count new r c q) (caller_count callers q r c) (call_count rows r c q)
         (one_if (nat_eq q called && (nat_eq r row && nat_eq c clause))) (one_if ((nat_eq r row && nat_eq c clause) && nat_eq q called))
         (ends q (is_pair r c)) (calls r c (nat_eq q)) (other_way (nat_eq q called) (nat_eq r row && nat_eq c clause)) (linked.agree r c q);
-    once = λ r c q. less_once (call_count new r c q) (call_count rows r c q) (one_if ((nat_eq r row && nat_eq c clause) && nat_eq q called)) (calls r c (nat_eq q)) (linked.once r c q);
+    once = λ r c q. less_once (call_count new r c q) (call_count rows r c q) (one_if ((nat_eq r row && nat_eq c clause) && nat_eq q called))
+        (calls r c (nat_eq q)) (linked.once r c q);
   }
 
   -- one fewer stands in each of the two lists
   pub fewer_calls : length (calls_at new row clause) < length (calls_at rows row clause)
   fewer_calls = smaller (length (calls_at new row clause)) (length (calls_at rows row clause)) (one_if ((nat_eq row row && nat_eq clause clause) && true))
-      (ap (λ n. n + one_if ((nat_eq row row && nat_eq clause clause) && true)) (sym (count_all (calls_at new row clause))) ∙ calls row clause (λ (x : ℕ). true) ∙ count_all (calls_at rows row clause)) (itself row clause)
+      (ap (λ n. n + one_if ((nat_eq row row && nat_eq clause clause) && true)) (sym (count_all (calls_at new row clause)))
+      ∙ calls row clause (λ (x : ℕ). true) ∙ count_all (calls_at rows row clause)) (itself row clause)
 
   pub fewer_callers : length (callers_at after called) < length (callers_at callers called)
   fewer_callers = smaller (length (callers_at after called)) (length (callers_at callers called)) (one_if (nat_eq called called && true))
-      (ap (λ n. n + one_if (nat_eq called called && true)) (sym (count_all (callers_at after called))) ∙ ends called (λ (x : ℕ × ℕ). true) ∙ count_all (callers_at callers called)) (itself_too called)
+      (ap (λ n. n + one_if (nat_eq called called && true)) (sym (count_all (callers_at after called))) ∙ ends called (λ (x : ℕ × ℕ). true)
+      ∙ count_all (callers_at callers called)) (itself_too called)
 
 -- a mark changes no list and takes no room
 pub stays : {A : Type 0} (b : Bool) (x : A) → cond b x x ≡ x
@@ -92,7 +129,8 @@ call_cut rows new row clause called i items found r c t = by (nat_eq r row && na
     here : (nat_eq r row && nat_eq c clause) ≡ true → at (nat_eq called) false (calls_at rows r c) i ≡ true
     here h =
         let p : (nat_eq r row ≡ true) × (nat_eq c clause ≡ true) = and_true (nat_eq r row) (nat_eq c clause) h in
-        ap (λ n. at (nat_eq called) false (calls_at rows n c) i) (eqb-true r row p.0) ∙ ap (λ n. at (nat_eq called) false (calls_at rows row n) i) (eqb-true c clause p.1) ∙ found
+        ap (λ n. at (nat_eq called) false (calls_at rows n c) i) (eqb-true r row p.0)
+        ∙ ap (λ n. at (nat_eq called) false (calls_at rows row n) i) (eqb-true c clause p.1) ∙ found
 
     by : (b : Bool) → (nat_eq r row && nat_eq c clause) ≡ b → calls_at new r c ≡ cond b (swap_remove (calls_at rows r c) i called) (calls_at rows r c)
         → count_by t (calls_at new r c) + one_if (b && t called) ≡ count_by t (calls_at rows r c)
@@ -111,19 +149,22 @@ caller_cut callers after row clause called i items found q t = by (nat_eq q call
 
     by : (b : Bool) → nat_eq q called ≡ b → callers_at after q ≡ cond b (swap_remove (callers_at callers q) i (row, clause)) (callers_at callers q)
         → count_by t (callers_at after q) + one_if (b && t (row, clause)) ≡ count_by t (callers_at callers q)
-    by true e h = ap (λ xs. count_by t xs + one_if (t (row, clause))) h ∙ count_taken (λ (p : ℕ × ℕ). is_pair p.0 p.1) pair_is t (row, clause) (callers_at callers q) i (here e)
+    by true e h = ap (λ xs. count_by t xs + one_if (t (row, clause))) h
+        ∙ count_taken (λ (p : ℕ × ℕ). is_pair p.0 p.1) pair_is t (row, clause) (callers_at callers q) i (here e)
     by false e h = ap (λ xs. count_by t xs + 0) h ∙ add-zero (count_by t (callers_at callers q))
 
 -- what is known of a call that was looked up
 pub call_there : (rows : List RowCalls) (row clause r c q : ℕ) → r ≡ row → c ≡ clause → 0 < call_count rows row clause q → 0 < call_count rows r c q
 call_there rows row clause r c q e f h = subst (λ n. 0 < call_count rows n c q) (sym e) (subst (λ n. 0 < call_count rows row n q) (sym f) h)
 
-pub caller_there : (rows : List RowCalls) (callers : List Callers) (row r c q : ℕ) → AreLinked rows callers → q ≡ row → 0 < caller_count callers row r c → 0 < call_count rows r c q
+pub caller_there : (rows : List RowCalls) (callers : List Callers) (row r c q : ℕ) → AreLinked rows callers → q ≡ row → 0 < caller_count callers row r c
+    → 0 < call_count rows r c q
 caller_there rows callers row r c q linked e h = subst (λ n. 0 < n) (linked.agree r c q) (subst (λ n. 0 < caller_count callers n r c) (sym e) h)
 
 -- a call of a clause is taken away
 module _ (rows new : List RowCalls) (callers after : List Callers) (row clause r' c' called : ℕ) (is_row : r' ≡ row) (is_clause : c' ≡ clause)
-    (calls : (r c : ℕ) (t : ℕ → Bool) → count_by t (calls_at new r c) + one_if ((nat_eq r r' && nat_eq c c') && t called) ≡ count_by t (calls_at rows r c)) where
+    (calls : (r c : ℕ) (t : ℕ → Bool) → count_by t (calls_at new r c) + one_if ((nat_eq r r' && nat_eq c c') && t called)
+    ≡ count_by t (calls_at rows r c)) where
   same_pair : (r c : ℕ) → (nat_eq r r' && nat_eq c c') ≡ (nat_eq r row && nat_eq c clause)
   same_pair r c = ap (λ n. nat_eq r n && nat_eq c c') is_row ∙ ap (λ n. nat_eq r row && nat_eq c n) is_clause
 
@@ -135,25 +176,31 @@ module _ (rows new : List RowCalls) (callers after : List Callers) (row clause r
 
   pub cut_fewer : length (calls_at new row clause) < length (calls_at rows row clause)
   cut_fewer = smaller (length (calls_at new row clause)) (length (calls_at rows row clause)) (one_if ((nat_eq row r' && nat_eq clause c') && true))
-      (ap (λ n. n + one_if ((nat_eq row r' && nat_eq clause c') && true)) (sym (count_all (calls_at new row clause))) ∙ calls row clause (λ (x : ℕ). true) ∙ count_all (calls_at rows row clause))
+      (ap (λ n. n + one_if ((nat_eq row r' && nat_eq clause c') && true)) (sym (count_all (calls_at new row clause))) ∙ calls row clause (λ (x : ℕ). true)
+      ∙ count_all (calls_at rows row clause))
       (ap (λ b. one_if (b && true)) (same_pair row clause) ∙ itself row clause)
 
 -- a call of a row is taken away
 module _ (rows new : List RowCalls) (callers after : List Callers) (row clause called q' : ℕ) (is_called : q' ≡ called) where
-  pub cut_other_rows : ((r c : ℕ) (t : ℕ → Bool) → count_by t (calls_at new r c) + one_if ((nat_eq r row && nat_eq c clause) && t q') ≡ count_by t (calls_at rows r c))
-      → (init : ℕ) (r c q : ℕ) → cond (nat_eq q called) 0 (call_count rows r c q) ≡ cond (nat_eq q called) 0 init → cond (nat_eq q called) 0 (call_count new r c q) ≡ cond (nat_eq q called) 0 init
+  pub cut_other_rows : ((r c : ℕ) (t : ℕ → Bool)
+      → count_by t (calls_at new r c) + one_if ((nat_eq r row && nat_eq c clause) && t q') ≡ count_by t (calls_at rows r c))
+      → (init : ℕ) (r c q : ℕ) → cond (nat_eq q called) 0 (call_count rows r c q) ≡ cond (nat_eq q called) 0 init
+      → cond (nat_eq q called) 0 (call_count new r c q) ≡ cond (nat_eq q called) 0 init
   cut_other_rows calls init r c q so_far =
       others_stay_too (nat_eq q called) (nat_eq r row && nat_eq c clause) (call_count new r c q) (call_count rows r c q)
       (ap (λ n. call_count new r c q + one_if ((nat_eq r row && nat_eq c clause) && nat_eq q n)) (sym is_called) ∙ calls r c (nat_eq q)) ∙ so_far
 
-  pub cut_fewer_callers : ((q : ℕ) (t : ℕ × ℕ → Bool) → count_by t (callers_at after q) + one_if (nat_eq q q' && t (row, clause)) ≡ count_by t (callers_at callers q))
+  pub cut_fewer_callers : ((q : ℕ) (t : ℕ × ℕ → Bool)
+      → count_by t (callers_at after q) + one_if (nat_eq q q' && t (row, clause)) ≡ count_by t (callers_at callers q))
       → length (callers_at after called) < length (callers_at callers called)
   cut_fewer_callers ends = smaller (length (callers_at after called)) (length (callers_at callers called)) (one_if (nat_eq called q' && true))
-      (ap (λ n. n + one_if (nat_eq called q' && true)) (sym (count_all (callers_at after called))) ∙ ends called (λ (x : ℕ × ℕ). true) ∙ count_all (callers_at callers called))
+      (ap (λ n. n + one_if (nat_eq called q' && true)) (sym (count_all (callers_at after called))) ∙ ends called (λ (x : ℕ × ℕ). true)
+      ∙ count_all (callers_at callers called))
       (ap (λ n. one_if (nat_eq called n && true)) is_called ∙ itself_too called)
 
 -- a row that none calls
-pub none_calls : (rows : List RowCalls) (callers : List Callers) (row : ℕ) → AreLinked rows callers → callers_at callers row ≡ [] → (r c q : ℕ) → nat_eq q row ≡ true → call_count rows r c q ≡ 0
+pub none_calls : (rows : List RowCalls) (callers : List Callers) (row : ℕ) → AreLinked rows callers → callers_at callers row ≡ [] → (r c q : ℕ)
+    → nat_eq q row ≡ true → call_count rows r c q ≡ 0
 none_calls rows callers row linked e r c q h =
     ap (λ n. call_count rows r c n) (eqb-true q row h) ∙ sym (linked.agree r c row) ∙ ap (λ xs. count_by (is_pair r c) xs) e
 
@@ -187,7 +234,8 @@ below_or_past (suc c) (suc n) = further (below_or_past c n)
     further (inr h) = inr (omega arith)
 
 -- a row whose clauses call none
-pub row_gone : (rows : List RowCalls) (row count : ℕ) → ((c q : ℕ) → c < count → call_count rows row c q ≡ 0) → ((c q : ℕ) → count ≤ c → call_count rows row c q ≡ 0)
+pub row_gone : (rows : List RowCalls) (row count : ℕ) → ((c q : ℕ) → c < count → call_count rows row c q ≡ 0)
+    → ((c q : ℕ) → count ≤ c → call_count rows row c q ≡ 0)
     → (r c q : ℕ) → nat_eq r row ≡ true → call_count rows r c q ≡ 0
 row_gone rows row count gone past r c q h = ap (λ n. call_count rows n c q) (eqb-true r row h) ∙ by (below_or_past c count)
   where

@@ -1,5 +1,27 @@
 -- Marks of clauses of rows.
-use Rattle.std.proofs.Common.{◌≡◌, ℕ, ◌<◌, ◌≤◌, Bool, true, false, cond, ◌&&◌, ◌||◌, not, nat_eq, List, length, slice_set, slice_index_or, refl, sym, ap, ◌∙◌, subst}
+use Rattle.std.proofs.Common.{
+  ◌≡◌,
+  ℕ,
+  ◌<◌,
+  ◌≤◌,
+  Bool,
+  true,
+  false,
+  cond,
+  ◌&&◌,
+  ◌||◌,
+  not,
+  nat_eq,
+  List,
+  length,
+  slice_set,
+  slice_index_or,
+  refl,
+  sym,
+  ap,
+  ◌∙◌,
+  subst,
+}
 use Rattle.std.proofs.lemmas.Bool.{eqb-true}
 use Rattle.plai_arcs.specs.declared.dirty_row.DirtyRow.{DirtyRow}
 use Rattle.plai_arcs.specs.Flags.{flag_at}
@@ -30,7 +52,8 @@ past_unmarked rows row clause h r c = by (nat_eq r row) refl
 
     by : (b : Bool) → nat_eq r row ≡ b → dirty_at rows r c ≡ (not (b && nat_eq c clause) && dirty_at rows r c)
     by true t =
-        let none : dirty_at rows r c ≡ false = at_past (λ (d : DirtyRow). flag_at d.flags.items c) false rows r (subst (λ j. length rows ≤ j) (sym (eqb-true r row t)) h) in
+        let none : dirty_at rows r c ≡ false = at_past (λ (d : DirtyRow). flag_at d.flags.items c) false rows r
+        (subst (λ j. length rows ≤ j) (sym (eqb-true r row t)) h) in
         subst (λ x. x ≡ (not (nat_eq c clause) && x)) (sym none) (by_clause (nat_eq c clause))
     by false t = refl
 

@@ -1,5 +1,34 @@
 -- Calls added one by one at both ends.
-use Rattle.std.proofs.Common.{◌≡◌, ℕ, zero, suc, ◌+◌, ◌-◌, ◌<◌, ◌≤◌, Bool, true, false, cond, ◌&&◌, ◌||◌, nat_eq, List, [], ◌∷◌, ◌++◌, length, take, slice_index_or, refl, sym, ap, ◌∙◌, subst, arith}
+use Rattle.std.proofs.Common.{
+  ◌≡◌,
+  ℕ,
+  zero,
+  suc,
+  ◌+◌,
+  ◌-◌,
+  ◌<◌,
+  ◌≤◌,
+  Bool,
+  true,
+  false,
+  cond,
+  ◌&&◌,
+  ◌||◌,
+  nat_eq,
+  List,
+  [],
+  ◌∷◌,
+  ◌++◌,
+  length,
+  take,
+  slice_index_or,
+  refl,
+  sym,
+  ap,
+  ◌∙◌,
+  subst,
+  arith,
+}
 use Rattle.std.specs.List.{count_by, list_any}
 use Rattle.std.proofs.lemmas.Bool.{eqb-true, eq-eqb}
 use Rattle.plai_arcs.specs.declared.row_calls.RowCalls.{RowCalls}
@@ -12,7 +41,8 @@ use Rattle.plai_arcs.proofs.LinkLemmas.{any_one_more, any_here}
 -- The first i of the called rows are calls of the clause of the row, and a row that the clause calls has it for its last caller.
 pub record AreJoined (initial rows : List RowCalls) (callers : List Callers) (row clause : ℕ) (called : List ℕ) (i : ℕ) : Type 0 where
   pub linked : AreLinked rows callers
-  pub calls : (r c q : ℕ) → call_count rows r c q ≡ cond (nat_eq r row && nat_eq c clause) (one_if (list_any (nat_eq q) (take i called))) (call_count initial r c q)
+  pub calls : (r c q : ℕ) → call_count rows r c q
+      ≡ cond (nat_eq r row && nat_eq c clause) (one_if (list_any (nat_eq q) (take i called))) (call_count initial r c q)
   pub last : (q : ℕ) → caller_count callers q row clause ≡ one_if (last_is row clause (callers_at callers q))
   pub call_fits : length called - i < call_room rows row clause
   pub caller_fits : (q : ℕ) → list_any (nat_eq q) called ≡ true → list_any (nat_eq q) (take i called) ≡ false → 0 < caller_room callers q
@@ -29,8 +59,10 @@ pair_true : (row clause : ℕ) → (nat_eq row row && nat_eq clause clause) ≡ 
 pair_true row clause = pair_itself row clause
 
 -- nothing is joined yet
-pub joined_none : (rows : List RowCalls) (callers : List Callers) (row clause : ℕ) (called : List ℕ) → AreLinked rows callers → ((q : ℕ) → call_count rows row clause q ≡ 0)
-    → HasCallRoom rows row clause (length called) → ((q : ℕ) → list_any (nat_eq q) called ≡ true → 0 < caller_room callers q) → AreJoined rows rows callers row clause called 0
+pub joined_none : (rows : List RowCalls) (callers : List Callers) (row clause : ℕ) (called : List ℕ) → AreLinked rows callers
+    → ((q : ℕ) → call_count rows row clause q ≡ 0)
+    → HasCallRoom rows row clause (length called) → ((q : ℕ) → list_any (nat_eq q) called ≡ true → 0 < caller_room callers q)
+    → AreJoined rows rows callers row clause called 0
 joined_none rows callers row clause called linked none room rooms = record {
   linked = linked;
   calls = λ r c q. by r c q (nat_eq r row && nat_eq c clause) refl;
@@ -47,16 +79,19 @@ joined_none rows callers row clause called linked none room rooms = record {
         let t : (nat_eq r row ≡ true) × (nat_eq c clause ≡ true) = and_true (nat_eq r row) (nat_eq c clause) h in
         ap (λ n. call_count rows n c q) (eqb-true r row t.0) ∙ ap (λ n. call_count rows row n q) (eqb-true c clause t.1) ∙ none q
 
-    by : (r c q : ℕ) (b : Bool) → (nat_eq r row && nat_eq c clause) ≡ b → call_count rows r c q ≡ cond b (one_if (list_any (nat_eq q) (take 0 called))) (call_count rows r c q)
+    by : (r c q : ℕ) (b : Bool) → (nat_eq r row && nat_eq c clause) ≡ b
+        → call_count rows r c q ≡ cond b (one_if (list_any (nat_eq q) (take 0 called))) (call_count rows r c q)
     by r c q true e = none_there r c q e
     by r c q false e = refl
 
     no_last : (q : ℕ) (b : Bool) → last_is row clause (callers_at callers q) ≡ b → caller_count callers q row clause ≡ one_if b
-    no_last q true e = absurd (let h : 0 < caller_count callers q row clause = last_counts row clause (callers_at callers q) e in let k : caller_count callers q row clause ≡ 0 = linked.agree row clause q ∙ none q in omega arith)
+    no_last q true e = absurd (let h : 0 < caller_count callers q row clause = last_counts row clause (callers_at callers q) e in
+        let k : caller_count callers q row clause ≡ 0 = linked.agree row clause q ∙ none q in omega arith)
     no_last q false e = linked.agree row clause q ∙ none q
 
 -- one item more in the part that is done
-more_any : (called : List ℕ) (i q : ℕ) → i < length called → list_any (nat_eq q) (take (i + 1) called) ≡ (list_any (nat_eq q) (take i called) || nat_eq q (slice_index_or called i q))
+more_any : (called : List ℕ) (i q : ℕ) → i < length called
+    → list_any (nat_eq q) (take (i + 1) called) ≡ (list_any (nat_eq q) (take i called) || nat_eq q (slice_index_or called i q))
 more_any called i q h = any_one_more (nat_eq q) called i q h
 
 or_false : (a b : Bool) → (a || b) ≡ false → (a ≡ false) × (b ≡ false)
@@ -79,7 +114,8 @@ module _ (initial rows : List RowCalls) (callers : List Callers) (row clause : �
   more q = more_any called i q inside ∙ ap (λ n. list_any (nat_eq q) (take i called) || nat_eq q n) (here q)
 
   at_pair : (q : ℕ) → call_count rows row clause q ≡ one_if (list_any (nat_eq q) (take i called))
-  at_pair q = so_far.calls row clause q ∙ ap (λ b. cond b (one_if (list_any (nat_eq q) (take i called))) (call_count initial row clause q)) (pair_true row clause)
+  at_pair q = so_far.calls row clause q ∙ ap (λ b. cond b (one_if (list_any (nat_eq q) (take i called))) (call_count initial row clause q))
+      (pair_true row clause)
 
   before : (q : ℕ) → list_any (nat_eq q) (take (i + 1) called) ≡ false → (list_any (nat_eq q) (take i called) ≡ false) × (nat_eq q other ≡ false)
   before q h = or_false (list_any (nat_eq q) (take i called)) (nat_eq q other) (sym (more q) ∙ h)
@@ -128,7 +164,8 @@ module _ (initial rows : List RowCalls) (callers : List Callers) (row clause : �
     caller_fits_now = so_far.caller_fits other among not_before
 
     pub call_fits_now : 1 < call_room rows row clause
-    call_fits_now = let h : length called - i < call_room rows row clause = so_far.call_fits in let k : i < length called = inside in enough (length called) i (call_room rows row clause) k h
+    call_fits_now = let h : length called - i < call_room rows row clause = so_far.call_fits in let k : i < length called = inside in
+        enough (length called) i (call_room rows row clause) k h
       where
         enough : (n i m : ℕ) → i < n → n - i < m → 1 < m
         enough n i m k h = omega arith
@@ -138,17 +175,21 @@ module _ (initial rows : List RowCalls) (callers : List Callers) (row clause : �
         (ends : (q : ℕ) → callers_at after q ≡ cond (nat_eq q other) (callers_at callers q ++ (row, clause) ∷ []) (callers_at callers q))
         (call_less : call_room rows row clause ≤ call_room new row clause + 1)
         (caller_less : (q : ℕ) → caller_room callers q ≤ caller_room after q + one_if (nat_eq q other)) where
-      new_count : (r c q : ℕ) → call_count new r c q ≡ cond (nat_eq r row && nat_eq c clause) (call_count rows r c q + one_if (nat_eq q other)) (call_count rows r c q)
+      new_count : (r c q : ℕ) → call_count new r c q
+          ≡ cond (nat_eq r row && nat_eq c clause) (call_count rows r c q + one_if (nat_eq q other)) (call_count rows r c q)
       new_count r c q = ap (λ xs. count_by (nat_eq q) xs) (calls r c) ∙ by (nat_eq r row && nat_eq c clause)
         where
-          by : (b : Bool) → count_by (nat_eq q) (cond b (calls_at rows r c ++ other ∷ []) (calls_at rows r c)) ≡ cond b (call_count rows r c q + one_if (nat_eq q other)) (call_count rows r c q)
+          by : (b : Bool) → count_by (nat_eq q) (cond b (calls_at rows r c ++ other ∷ []) (calls_at rows r c))
+              ≡ cond b (call_count rows r c q + one_if (nat_eq q other)) (call_count rows r c q)
           by true = count_pushed (nat_eq q) other (calls_at rows r c)
           by false = refl
 
-      new_callers : (r c q : ℕ) → caller_count after q r c ≡ cond (nat_eq q other) (caller_count callers q r c + one_if (nat_eq r row && nat_eq c clause)) (caller_count callers q r c)
+      new_callers : (r c q : ℕ) → caller_count after q r c
+          ≡ cond (nat_eq q other) (caller_count callers q r c + one_if (nat_eq r row && nat_eq c clause)) (caller_count callers q r c)
       new_callers r c q = ap (λ xs. count_by (is_pair r c) xs) (ends q) ∙ by (nat_eq q other)
         where
-          by : (b : Bool) → count_by (is_pair r c) (cond b (callers_at callers q ++ (row, clause) ∷ []) (callers_at callers q)) ≡ cond b (caller_count callers q r c + one_if (nat_eq r row && nat_eq c clause)) (caller_count callers q r c)
+          by : (b : Bool) → count_by (is_pair r c) (cond b (callers_at callers q ++ (row, clause) ∷ []) (callers_at callers q))
+              ≡ cond b (caller_count callers q r c + one_if (nat_eq r row && nat_eq c clause)) (caller_count callers q r c)
           by true = count_pushed (is_pair r c) (row, clause) (callers_at callers q)
           by false = refl
 
@@ -159,10 +200,13 @@ module _ (initial rows : List RowCalls) (callers : List Callers) (row clause : �
       same_added false false m n e = e
 
       now_agree : (r c q : ℕ) → caller_count after q r c ≡ call_count new r c q
-      now_agree r c q = new_callers r c q ∙ same_added (nat_eq q other) (nat_eq r row && nat_eq c clause) (caller_count callers q r c) (call_count rows r c q) (so_far.linked.agree r c q) ∙ sym (new_count r c q)
+      now_agree r c q = new_callers r c q ∙ same_added (nat_eq q other) (nat_eq r row && nat_eq c clause) (caller_count callers q r c) (call_count rows r c q)
+          (so_far.linked.agree r c q) ∙ sym (new_count r c q)
 
-      now_calls : (r c q : ℕ) → call_count new r c q ≡ cond (nat_eq r row && nat_eq c clause) (one_if (list_any (nat_eq q) (take (i + 1) called))) (call_count initial r c q)
-      now_calls r c q = new_count r c q ∙ by (nat_eq r row && nat_eq c clause) (call_count rows r c q) (so_far.calls r c q) ∙ ap (λ b. cond (nat_eq r row && nat_eq c clause) (one_if b) (call_count initial r c q)) (sym (more q))
+      now_calls : (r c q : ℕ) → call_count new r c q
+          ≡ cond (nat_eq r row && nat_eq c clause) (one_if (list_any (nat_eq q) (take (i + 1) called))) (call_count initial r c q)
+      now_calls r c q = new_count r c q ∙ by (nat_eq r row && nat_eq c clause) (call_count rows r c q) (so_far.calls r c q)
+          ∙ ap (λ b. cond (nat_eq r row && nat_eq c clause) (one_if b) (call_count initial r c q)) (sym (more q))
         where
           added : (a e : Bool) → (e ≡ true → a ≡ false) → one_if a + one_if e ≡ one_if (a || e)
           added true true h = absurd (let k : true ≡ false = h refl in cc)
@@ -187,17 +231,22 @@ module _ (initial rows : List RowCalls) (callers : List Callers) (row clause : �
           by : (b : Bool) → (nat_eq r row && nat_eq c clause) ≡ b → (a : Bool) → cond b (one_if a) (call_count initial r c q) ≤ 1
           by true e true = omega arith
           by true e false = omega arith
-          by false e a = at_most (call_count initial r c q) refl (so_far.calls r c q ∙ ap (λ b. cond b (one_if (list_any (nat_eq q) (take i called))) (call_count initial r c q)) e)
+          by false e a = at_most (call_count initial r c q) refl
+              (so_far.calls r c q ∙ ap (λ b. cond b (one_if (list_any (nat_eq q) (take i called))) (call_count initial r c q)) e)
 
       now_last : (q : ℕ) → caller_count after q row clause ≡ one_if (last_is row clause (callers_at after q))
       now_last q = by (nat_eq q other) refl (new_callers row clause q) (ends q)
         where
-          by : (b : Bool) → nat_eq q other ≡ b → caller_count after q row clause ≡ cond b (caller_count callers q row clause + one_if (nat_eq row row && nat_eq clause clause)) (caller_count callers q row clause)
-              → callers_at after q ≡ cond b (callers_at callers q ++ (row, clause) ∷ []) (callers_at callers q) → caller_count after q row clause ≡ one_if (last_is row clause (callers_at after q))
+          by : (b : Bool) → nat_eq q other ≡ b → caller_count after q row clause ≡ cond b
+              (caller_count callers q row clause + one_if (nat_eq row row && nat_eq clause clause)) (caller_count callers q row clause)
+              → callers_at after q ≡ cond b (callers_at callers q ++ (row, clause) ∷ []) (callers_at callers q)
+              → caller_count after q row clause ≡ one_if (last_is row clause (callers_at after q))
           by true e n h =
-              let none : caller_count callers q row clause ≡ 0 = so_far.linked.agree row clause q ∙ ap (λ m. call_count rows row clause m) (eqb-true q other e) ∙ none_yet in
+              let none : caller_count callers q row clause ≡ 0 =
+              so_far.linked.agree row clause q ∙ ap (λ m. call_count rows row clause m) (eqb-true q other e) ∙ none_yet in
               n ∙ ap (λ m. m + one_if (nat_eq row row && nat_eq clause clause)) none ∙ ap (λ b. 0 + one_if b) (pair_true row clause)
-              ∙ sym (ap (λ xs. one_if (last_is row clause xs)) h ∙ ap one_if (last_pushed row clause (callers_at callers q) (row, clause) ∙ pair_true row clause))
+              ∙ sym (ap (λ xs. one_if (last_is row clause xs)) h
+              ∙ ap one_if (last_pushed row clause (callers_at callers q) (row, clause) ∙ pair_true row clause))
           by false e n h = n ∙ so_far.last q ∙ sym (ap (λ xs. one_if (last_is row clause xs)) h)
 
       pub joined_now : AreJoined initial new after row clause called (i + 1)

@@ -1,5 +1,37 @@
 -- Rows under other numbers, at both ends.
-use Rattle.std.proofs.Common.{◌≡◌, ℕ, zero, suc, ◌+◌, ◌<◌, ◌≤◌, ◌≢◌, ◌⊎◌, inl, inr, Bool, true, false, cond, ◌&&◌, nat_eq, nat_lt, List, [], ◌∷◌, length, take, slice_set, slice_index_or, refl, sym, ap, ◌∙◌, subst, arith}
+use Rattle.std.proofs.Common.{
+  ◌≡◌,
+  ℕ,
+  zero,
+  suc,
+  ◌+◌,
+  ◌<◌,
+  ◌≤◌,
+  ◌≢◌,
+  ◌⊎◌,
+  inl,
+  inr,
+  Bool,
+  true,
+  false,
+  cond,
+  ◌&&◌,
+  nat_eq,
+  nat_lt,
+  List,
+  [],
+  ◌∷◌,
+  length,
+  take,
+  slice_set,
+  slice_index_or,
+  refl,
+  sym,
+  ap,
+  ◌∙◌,
+  subst,
+  arith,
+}
 use Rattle.std.specs.List.{count_by, swap}
 use Rattle.std.proofs.lemmas.Bool.{eqb-true, eq-eqb, ne_eqb}
 use Rattle.std.proofs.lemmas.List.{length-set}
@@ -39,7 +71,8 @@ module _ {A B : Type 0} (f : A → B) (d : B) where
   pub at_swap : (xs : List A) (i j : ℕ) → i < length xs → j < length xs → (k : ℕ) → at f d (swap xs i j) k ≡ at f d xs (swapped i j k)
   at_swap [] i j h g k = absurd (omega arith)
   at_swap (x ∷ ys) i j h g k =
-      at_set f d (slice_set (x ∷ ys) i (slice_index_or (x ∷ ys) j x)) j k (slice_index_or (x ∷ ys) i x) (subst (λ n. j < n) (sym (length-set (x ∷ ys) i (slice_index_or (x ∷ ys) j x))) g)
+      at_set f d (slice_set (x ∷ ys) i (slice_index_or (x ∷ ys) j x)) j k (slice_index_or (x ∷ ys) i x)
+      (subst (λ n. j < n) (sym (length-set (x ∷ ys) i (slice_index_or (x ∷ ys) j x))) g)
       ∙ ap (λ y. cond (nat_eq k j) (f (slice_index_or (x ∷ ys) i x)) y) (at_set f d (x ∷ ys) i k (slice_index_or (x ∷ ys) j x) h)
       ∙ ap (λ y. cond (nat_eq k j) y (cond (nat_eq k i) (f (slice_index_or (x ∷ ys) j x)) (at f d (x ∷ ys) k))) (sym (at_index f d (x ∷ ys) i x h))
       ∙ ap (λ y. cond (nat_eq k j) (at f d (x ∷ ys) i) (cond (nat_eq k i) y (at f d (x ∷ ys) k))) (sym (at_index f d (x ∷ ys) j x g))
@@ -56,18 +89,22 @@ module _ {A B : Type 0} (f : A → B) (d : B) where
 
 -- the names are changed
 pub named : (rows mid : List RowCalls) (last row : ℕ) → row < last → ((r c : ℕ) → call_count rows r c row ≡ 0)
-    → ((r c q : ℕ) → call_count mid r c q + cond (nat_eq q last) (call_count rows r c last) 0 ≡ call_count rows r c q + cond (nat_eq q row) (call_count rows r c last) 0)
+    → ((r c q : ℕ) → call_count mid r c q + cond (nat_eq q last) (call_count rows r c last) 0
+    ≡ call_count rows r c q + cond (nat_eq q row) (call_count rows r c last) 0)
     → (r c q : ℕ) → call_count mid r c q ≡ call_count rows r c (swapped row last q)
 named rows mid last row less of_none names r c q = by (nat_eq q row) (nat_eq q last) refl refl (names r c q)
   where
-    by : (a b : Bool) → nat_eq q row ≡ a → nat_eq q last ≡ b → call_count mid r c q + cond b (call_count rows r c last) 0 ≡ call_count rows r c q + cond a (call_count rows r c last) 0
+    by : (a b : Bool) → nat_eq q row ≡ a → nat_eq q last ≡ b
+        → call_count mid r c q + cond b (call_count rows r c last) 0 ≡ call_count rows r c q + cond a (call_count rows r c last) 0
         → call_count mid r c q ≡ call_count rows r c (cond a last (cond b row q))
     by true true e h k = absurd (let i : q ≡ row = eqb-true q row e in let j : q ≡ last = eqb-true q last h in omega arith)
-    by true false e h k = first (call_count mid r c q) (call_count rows r c q) (call_count rows r c last) k (ap (λ n. call_count rows r c n) (eqb-true q row e) ∙ of_none r c)
+    by true false e h k = first (call_count mid r c q) (call_count rows r c q) (call_count rows r c last) k
+        (ap (λ n. call_count rows r c n) (eqb-true q row e) ∙ of_none r c)
       where
         first : (a b n : ℕ) → a + 0 ≡ b + n → b ≡ 0 → a ≡ n
         first a b n k e = omega arith
-    by false true e h k = second (call_count mid r c q) (call_count rows r c q) (call_count rows r c last) k (ap (λ n. call_count rows r c n) (eqb-true q last h)) ∙ sym (of_none r c)
+    by false true e h k = second (call_count mid r c q) (call_count rows r c q) (call_count rows r c last) k
+        (ap (λ n. call_count rows r c n) (eqb-true q last h)) ∙ sym (of_none r c)
       where
         second : (a b n : ℕ) → a + n ≡ b + 0 → b ≡ n → a ≡ 0
         second a b n k e = omega arith
@@ -79,7 +116,8 @@ named rows mid last row less of_none names r c q = by (nat_eq q row) (nat_eq q l
 -- a row is renumbered: its calls, as they stand after their names are changed, its list and its callers
 module _ (rows mid new : List RowCalls) (callers after : List Callers) (last row : ℕ) (less : row < last) (linked : AreLinked rows callers)
     (by_none : (c q : ℕ) → call_count rows row c q ≡ 0) (of_none : (r c : ℕ) → call_count rows r c row ≡ 0)
-    (names : (r c q : ℕ) → call_count mid r c q + cond (nat_eq q last) (call_count rows r c last) 0 ≡ call_count rows r c q + cond (nat_eq q row) (call_count rows r c last) 0)
+    (names : (r c q : ℕ) → call_count mid r c q + cond (nat_eq q last) (call_count rows r c last) 0
+    ≡ call_count rows r c q + cond (nat_eq q row) (call_count rows r c last) 0)
     (calls : (r c : ℕ) → calls_at new r c ≡ calls_at mid (swapped row last r) c)
     (ends : (q : ℕ) → callers_at after q ≡ callers_at callers (swapped row last q)) where
   differ : nat_eq last row ≡ false
@@ -106,11 +144,13 @@ module _ (rows mid new : List RowCalls) (callers after : List Callers) (last row
   still_old q c = swapped_callers last c q ∙ sym (at_row c q)
 
   module _ (done : List Callers)
-      (renames : (q r c : ℕ) → caller_count done q r c + cond (nat_eq r last) (call_count new row c q) 0 ≡ caller_count after q r c + cond (nat_eq r row) (call_count new row c q) 0) where
+      (renames : (q r c : ℕ) → caller_count done q r c + cond (nat_eq r last) (call_count new row c q) 0
+      ≡ caller_count after q r c + cond (nat_eq r row) (call_count new row c q) 0) where
     agrees : (r c q : ℕ) → caller_count done q r c ≡ call_count new r c q
     agrees r c q = by (nat_eq r row) (nat_eq r last) refl refl (renames q r c)
       where
-        by : (a b : Bool) → nat_eq r row ≡ a → nat_eq r last ≡ b → caller_count done q r c + cond b (call_count new row c q) 0 ≡ caller_count after q r c + cond a (call_count new row c q) 0
+        by : (a b : Bool) → nat_eq r row ≡ a → nat_eq r last ≡ b
+            → caller_count done q r c + cond b (call_count new row c q) 0 ≡ caller_count after q r c + cond a (call_count new row c q) 0
             → caller_count done q r c ≡ call_count new r c q
         by true true e h k = absurd (let i : r ≡ row = eqb-true r row e in let j : r ≡ last = eqb-true r last h in omega arith)
         by true false e h k =
@@ -129,22 +169,30 @@ module _ (rows mid new : List RowCalls) (callers after : List Callers) (last row
             second a b n k e = omega arith
         by false false e h k =
             third (caller_count done q r c) (caller_count after q r c) k ∙ swapped_callers r c q
-            ∙ sym (renumbered r c q ∙ ap (λ b. call_count rows (cond b last (cond (nat_eq r last) row r)) c (swapped row last q)) e ∙ ap (λ b. call_count rows (cond b row r) c (swapped row last q)) h)
+            ∙ sym (renumbered r c q ∙ ap (λ b. call_count rows (cond b last (cond (nat_eq r last) row r)) c (swapped row last q)) e
+            ∙ ap (λ b. call_count rows (cond b row r) c (swapped row last q)) h)
           where
             third : (a b : ℕ) → a + 0 ≡ b + 0 → a ≡ b
             third a b k = omega arith
 
     pub renumber_linked : AreLinked new done
-    renumber_linked = record { agree = agrees; once = λ r c q. subst (λ n. n ≤ 1) (sym (renumbered r c q)) (linked.once (swapped row last r) c (swapped row last q)) }
+    renumber_linked = record {
+      agree = agrees;
+      once =
+          λ r c q. subst (λ n. n ≤ 1) (sym (renumbered r c q)) (linked.once (swapped row last r) c (swapped row last q));
+    }
 
 -- a list where nothing stands
 pub none_listed : (xs : List ℕ) → ((q : ℕ) → count_by (nat_eq q) xs ≡ 0) → xs ≡ []
 none_listed [] h = refl
-none_listed (x ∷ xs) h = absurd (let some : 0 < count_by (nat_eq x) (x ∷ xs) = stands_at (nat_eq x) (x ∷ xs) 0 x (omega arith) (eq-eqb x x refl) in let none : count_by (nat_eq x) (x ∷ xs) ≡ 0 = h x in omega arith)
+none_listed (x ∷ xs) h = absurd (let some : 0 < count_by (nat_eq x) (x ∷ xs) = stands_at (nat_eq x) (x ∷ xs) 0 x (omega arith) (eq-eqb x x refl) in
+    let none : count_by (nat_eq x) (x ∷ xs) ≡ 0 = h x in omega arith)
 
 pub none_paired : (xs : List (ℕ × ℕ)) → ((r c : ℕ) → count_by (is_pair r c) xs ≡ 0) → xs ≡ []
 none_paired [] h = refl
-none_paired (x ∷ xs) h = absurd (let some : 0 < count_by (is_pair x.0 x.1) (x ∷ xs) = stands_at (is_pair x.0 x.1) (x ∷ xs) 0 x (omega arith) (pair_itself x.0 x.1) in let none : count_by (is_pair x.0 x.1) (x ∷ xs) ≡ 0 = h x.0 x.1 in omega arith)
+none_paired (x ∷ xs) h = absurd (let some : 0 < count_by (is_pair x.0 x.1) (x ∷ xs) =
+    stands_at (is_pair x.0 x.1) (x ∷ xs) 0 x (omega arith) (pair_itself x.0 x.1) in let none : count_by (is_pair x.0 x.1) (x ∷ xs) ≡ 0 = h x.0 x.1 in
+    omega arith)
 
 pub take_past : {A : Type 0} (xs : List A) (i : ℕ) → length xs ≤ i → take i xs ≡ xs
 take_past [] zero h = refl
@@ -156,7 +204,8 @@ still_some : (n k init w total : ℕ) → n + k ≡ init + w → init ≡ total 
 still_some n k init w total e f h = omega arith
 
 -- one more of a list is within it
-one_of : {T : Type 0} (t : T → Bool) (xs : List T) (i : ℕ) (d : T) → i < length xs → t (slice_index_or xs i d) ≡ true → count_by t (take i xs) + 1 ≤ count_by t xs
+one_of : {T : Type 0} (t : T → Bool) (xs : List T) (i : ℕ) (d : T) → i < length xs → t (slice_index_or xs i d) ≡ true
+    → count_by t (take i xs) + 1 ≤ count_by t xs
 one_of t xs i d h e =
     let more : count_by t (take (i + 1) xs) ≡ count_by t (take i xs) + one_if (t (slice_index_or xs i d)) = count_more t xs i d h in
     let one : one_if (t (slice_index_or xs i d)) ≡ 1 = ap one_if e in
@@ -170,13 +219,15 @@ one_of t xs i d h e =
 call_renamed : (rows new : List RowCalls) (r' c' last row j : ℕ)
     → ((r c : ℕ) → calls_at new r c ≡ cond (nat_eq r r' && nat_eq c c') (slice_set (calls_at rows r c) j row) (calls_at rows r c))
     → at (nat_eq last) false (calls_at rows r' c') j ≡ true
-    → (r c q : ℕ) → call_count new r c q + one_if ((nat_eq r r' && nat_eq c c') && nat_eq q last) ≡ call_count rows r c q + one_if ((nat_eq r r' && nat_eq c c') && nat_eq q row)
+    → (r c q : ℕ) → call_count new r c q + one_if ((nat_eq r r' && nat_eq c c') && nat_eq q last)
+    ≡ call_count rows r c q + one_if ((nat_eq r r' && nat_eq c c') && nat_eq q row)
 call_renamed rows new r' c' last row j items found r c q = by (nat_eq r r' && nat_eq c c') refl (items r c)
   where
     here : (nat_eq r r' && nat_eq c c') ≡ true → at (nat_eq last) false (calls_at rows r c) j ≡ true
     here h =
         let p : (nat_eq r r' ≡ true) × (nat_eq c c' ≡ true) = and_true (nat_eq r r') (nat_eq c c') h in
-        ap (λ n. at (nat_eq last) false (calls_at rows n c) j) (eqb-true r r' p.0) ∙ ap (λ n. at (nat_eq last) false (calls_at rows r' n) j) (eqb-true c c' p.1) ∙ found
+        ap (λ n. at (nat_eq last) false (calls_at rows n c) j) (eqb-true r r' p.0)
+        ∙ ap (λ n. at (nat_eq last) false (calls_at rows r' n) j) (eqb-true c c' p.1) ∙ found
 
     by : (b : Bool) → (nat_eq r r' && nat_eq c c') ≡ b → calls_at new r c ≡ cond b (slice_set (calls_at rows r c) j row) (calls_at rows r c)
         → call_count new r c q + one_if (b && nat_eq q last) ≡ call_count rows r c q + one_if (b && nat_eq q row)
@@ -187,56 +238,69 @@ call_renamed rows new r' c' last row j items found r c q = by (nat_eq r r' && na
 caller_renamed : (callers after : List Callers) (q' last row clause j : ℕ)
     → ((q : ℕ) → callers_at after q ≡ cond (nat_eq q q') (slice_set (callers_at callers q) j (row, clause)) (callers_at callers q))
     → at (is_pair last clause) false (callers_at callers q') j ≡ true
-    → (q r c : ℕ) → caller_count after q r c + one_if (nat_eq q q' && (nat_eq r last && nat_eq c clause)) ≡ caller_count callers q r c + one_if (nat_eq q q' && (nat_eq r row && nat_eq c clause))
+    → (q r c : ℕ) → caller_count after q r c + one_if (nat_eq q q' && (nat_eq r last && nat_eq c clause))
+    ≡ caller_count callers q r c + one_if (nat_eq q q' && (nat_eq r row && nat_eq c clause))
 caller_renamed callers after q' last row clause j items found q r c = by (nat_eq q q') refl (items q)
   where
     here : nat_eq q q' ≡ true → at (is_pair last clause) false (callers_at callers q) j ≡ true
     here h = ap (λ n. at (is_pair last clause) false (callers_at callers n) j) (eqb-true q q' h) ∙ found
 
     by : (b : Bool) → nat_eq q q' ≡ b → callers_at after q ≡ cond b (slice_set (callers_at callers q) j (row, clause)) (callers_at callers q)
-        → caller_count after q r c + one_if (b && (nat_eq r last && nat_eq c clause)) ≡ caller_count callers q r c + one_if (b && (nat_eq r row && nat_eq c clause))
-    by true e h = ap (λ xs. count_by (is_pair r c) xs + one_if (nat_eq r last && nat_eq c clause)) h ∙ count_renamed (λ (p : ℕ × ℕ). is_pair p.0 p.1) pair_is (is_pair r c) (last, clause) (row, clause) (callers_at callers q) j (here e)
+        → caller_count after q r c + one_if (b && (nat_eq r last && nat_eq c clause))
+        ≡ caller_count callers q r c + one_if (b && (nat_eq r row && nat_eq c clause))
+    by true e h = ap (λ xs. count_by (is_pair r c) xs + one_if (nat_eq r last && nat_eq c clause)) h
+        ∙ count_renamed (λ (p : ℕ × ℕ). is_pair p.0 p.1) pair_is (is_pair r c) (last, clause) (row, clause) (callers_at callers q) j (here e)
     by false e h = ap (λ xs. count_by (is_pair r c) xs + 0) h
 
 -- The calls by the first i of these pairs are renamed.
 abbrev pub AreNamed : List RowCalls → List RowCalls → List (ℕ × ℕ) → ℕ → ℕ → ℕ → Type 0
-AreNamed init rows ends last row i = (r c q : ℕ) → call_count rows r c q + cond (nat_eq q last) (count_by (is_pair r c) (take i ends)) 0 ≡ call_count init r c q + cond (nat_eq q row) (count_by (is_pair r c) (take i ends)) 0
+AreNamed init rows ends last row i = (r c q : ℕ)
+    → call_count rows r c q + cond (nat_eq q last) (count_by (is_pair r c) (take i ends)) 0
+    ≡ call_count init r c q + cond (nat_eq q row) (count_by (is_pair r c) (take i ends)) 0
 
 -- The callers of the first i of these rows are renamed.
 abbrev pub AreRenamed : List Callers → List Callers → List ℕ → ℕ → ℕ → ℕ → ℕ → Type 0
-AreRenamed init callers rows last row clause i = (q r c : ℕ) → caller_count callers q r c + cond (nat_eq r last && nat_eq c clause) (count_by (nat_eq q) (take i rows)) 0
+AreRenamed init callers rows last row clause i = (q r c : ℕ)
+    → caller_count callers q r c + cond (nat_eq r last && nat_eq c clause) (count_by (nat_eq q) (take i rows)) 0
     ≡ caller_count init q r c + cond (nat_eq r row && nat_eq c clause) (count_by (nat_eq q) (take i rows)) 0
 
 pub none_named : (init : List RowCalls) (ends : List (ℕ × ℕ)) (last row : ℕ) → AreNamed init init ends last row 0
 none_named init ends last row r c q = ap (λ n. call_count init r c q + n) (stays (nat_eq q last) 0 ∙ sym (stays (nat_eq q row) 0))
 
 pub none_renamed : (init : List Callers) (rows : List ℕ) (last row clause : ℕ) → AreRenamed init init rows last row clause 0
-none_renamed init rows last row clause q r c = ap (λ n. caller_count init q r c + n) (stays (nat_eq r last && nat_eq c clause) 0 ∙ sym (stays (nat_eq r row && nat_eq c clause) 0))
+none_renamed init rows last row clause q r c =
+    ap (λ n. caller_count init q r c + n) (stays (nat_eq r last && nat_eq c clause) 0 ∙ sym (stays (nat_eq r row && nat_eq c clause) 0))
 
 module _ (init rows : List RowCalls) (ends : List (ℕ × ℕ)) (last row i : ℕ) (inside : i < length ends) (so_far : AreNamed init rows ends last row i) where
-  pub still_named : ((r c : ℕ) → call_count init r c last ≡ count_by (is_pair r c) ends) → 0 < call_count rows (slice_index_or ends i (0, 0)).0 (slice_index_or ends i (0, 0)).1 last
+  pub still_named : ((r c : ℕ) → call_count init r c last ≡ count_by (is_pair r c) ends)
+      → 0 < call_count rows (slice_index_or ends i (0, 0)).0 (slice_index_or ends i (0, 0)).1 last
   still_named whole =
       let r = (slice_index_or ends i (0, 0)).0 in
       let c = (slice_index_or ends i (0, 0)).1 in
-      still_some (call_count rows r c last) (count_by (is_pair r c) (take i ends)) (call_count init r c last) (cond (nat_eq last row) (count_by (is_pair r c) (take i ends)) 0) (count_by (is_pair r c) ends)
+      still_some (call_count rows r c last) (count_by (is_pair r c) (take i ends)) (call_count init r c last)
+      (cond (nat_eq last row) (count_by (is_pair r c) (take i ends)) 0) (count_by (is_pair r c) ends)
       (ap (λ b. call_count rows r c last + cond b (count_by (is_pair r c) (take i ends)) 0) (sym (eq-eqb last last refl)) ∙ so_far r c last)
       (whole r c) (one_of (is_pair r c) ends i (0, 0) inside (pair_itself r c))
 
   pub named_more : (new : List RowCalls) (j : ℕ)
-      → ((r c : ℕ) → calls_at new r c ≡ cond (nat_eq r (slice_index_or ends i (0, 0)).0 && nat_eq c (slice_index_or ends i (0, 0)).1) (slice_set (calls_at rows r c) j row) (calls_at rows r c))
+      → ((r c : ℕ) → calls_at new r c ≡ cond (nat_eq r (slice_index_or ends i (0, 0)).0 && nat_eq c (slice_index_or ends i (0, 0)).1)
+      (slice_set (calls_at rows r c) j row) (calls_at rows r c))
       → at (nat_eq last) false (calls_at rows (slice_index_or ends i (0, 0)).0 (slice_index_or ends i (0, 0)).1) j ≡ true
       → AreNamed init new ends last row (i + 1)
   named_more new j items found r c q =
       subst (λ n. call_count new r c q + cond (nat_eq q last) n 0 ≡ call_count init r c q + cond (nat_eq q row) n 0)
       (sym (count_more (is_pair r c) ends i (0, 0) inside))
-      (renamed_more (is_pair r c (slice_index_or ends i (0, 0))) (nat_eq q last) (nat_eq q row) (call_count new r c q) (call_count rows r c q) (call_count init r c q) (count_by (is_pair r c) (take i ends))
+      (renamed_more (is_pair r c (slice_index_or ends i (0, 0))) (nat_eq q last) (nat_eq q row) (call_count new r c q) (call_count rows r c q)
+      (call_count init r c q) (count_by (is_pair r c) (take i ends))
       (call_renamed rows new (slice_index_or ends i (0, 0)).0 (slice_index_or ends i (0, 0)).1 last row j items found r c q) (so_far r c q))
 
-module _ (init callers : List Callers) (rows : List ℕ) (last row clause i : ℕ) (inside : i < length rows) (so_far : AreRenamed init callers rows last row clause i) where
+module _ (init callers : List Callers) (rows : List ℕ) (last row clause i : ℕ) (inside : i < length rows)
+    (so_far : AreRenamed init callers rows last row clause i) where
   pub still_caller : ((q : ℕ) → caller_count init q last clause ≡ count_by (nat_eq q) rows) → 0 < caller_count callers (slice_index_or rows i 0) last clause
   still_caller whole =
       let q = slice_index_or rows i 0 in
-      still_some (caller_count callers q last clause) (count_by (nat_eq q) (take i rows)) (caller_count init q last clause) (cond (nat_eq last row && nat_eq clause clause) (count_by (nat_eq q) (take i rows)) 0) (count_by (nat_eq q) rows)
+      still_some (caller_count callers q last clause) (count_by (nat_eq q) (take i rows)) (caller_count init q last clause)
+      (cond (nat_eq last row && nat_eq clause clause) (count_by (nat_eq q) (take i rows)) 0) (count_by (nat_eq q) rows)
       (ap (λ b. caller_count callers q last clause + cond b (count_by (nat_eq q) (take i rows)) 0) (sym (pair_itself last clause)) ∙ so_far q last clause)
       (whole q) (one_of (nat_eq q) rows i 0 inside (eq-eqb q q refl))
 
@@ -247,7 +311,8 @@ module _ (init callers : List Callers) (rows : List ℕ) (last row clause i : �
   renamed_next after j items found q r c =
       subst (λ n. caller_count after q r c + cond (nat_eq r last && nat_eq c clause) n 0 ≡ caller_count init q r c + cond (nat_eq r row && nat_eq c clause) n 0)
       (sym (count_more (nat_eq q) rows i 0 inside))
-      (renamed_more (nat_eq q (slice_index_or rows i 0)) (nat_eq r last && nat_eq c clause) (nat_eq r row && nat_eq c clause) (caller_count after q r c) (caller_count callers q r c) (caller_count init q r c) (count_by (nat_eq q) (take i rows))
+      (renamed_more (nat_eq q (slice_index_or rows i 0)) (nat_eq r last && nat_eq c clause) (nat_eq r row && nat_eq c clause) (caller_count after q r c)
+      (caller_count callers q r c) (caller_count init q r c) (count_by (nat_eq q) (take i rows))
       (caller_renamed callers after (slice_index_or rows i 0) last row clause j items found q r c) (so_far q r c))
 
 -- clause after clause
@@ -282,11 +347,15 @@ still_same false true false x y n e h = omega arith
 still_same false false false x y n e h = omega arith
 
 pub renamed_clause : (calls : List RowCalls) (row last clause q r k new old init : ℕ)
-    → new + cond (nat_eq r last && nat_eq k clause) (call_count calls row clause q) 0 ≡ old + cond (nat_eq r row && nat_eq k clause) (call_count calls row clause q) 0
-    → old + cond (nat_eq r last) (cond (nat_lt k clause) (call_count calls row k q) 0) 0 ≡ init + cond (nat_eq r row) (cond (nat_lt k clause) (call_count calls row k q) 0) 0
-    → new + cond (nat_eq r last) (cond (nat_lt k (clause + 1)) (call_count calls row k q) 0) 0 ≡ init + cond (nat_eq r row) (cond (nat_lt k (clause + 1)) (call_count calls row k q) 0) 0
+    → new + cond (nat_eq r last && nat_eq k clause) (call_count calls row clause q) 0
+    ≡ old + cond (nat_eq r row && nat_eq k clause) (call_count calls row clause q) 0
+    → old + cond (nat_eq r last) (cond (nat_lt k clause) (call_count calls row k q) 0) 0
+    ≡ init + cond (nat_eq r row) (cond (nat_lt k clause) (call_count calls row k q) 0) 0
+    → new + cond (nat_eq r last) (cond (nat_lt k (clause + 1)) (call_count calls row k q) 0) 0
+    ≡ init + cond (nat_eq r row) (cond (nat_lt k (clause + 1)) (call_count calls row k q) 0) 0
 renamed_clause calls row last clause q r k new old init step so_far =
-    clauses_renamed (nat_eq k clause) (nat_eq r last) (nat_eq r row) new old init (cond (nat_lt k clause) (call_count calls row k q) 0) (call_count calls row k q) (cond (nat_lt k (clause + 1)) (call_count calls row k q) 0) (call_count calls row clause q)
+    clauses_renamed (nat_eq k clause) (nat_eq r last) (nat_eq r row) new old init (cond (nat_lt k clause) (call_count calls row k q) 0)
+    (call_count calls row k q) (cond (nat_lt k (clause + 1)) (call_count calls row k q) 0) (call_count calls row clause q)
     (λ e. (
       ap (λ t. cond t (call_count calls row k q) 0) (ap (λ j. nat_lt j clause) (eqb-true k clause e) ∙ not_below_itself clause),
       ap (λ t. cond t (call_count calls row k q) 0) (ap (λ j. nat_lt j (clause + 1)) (eqb-true k clause e) ∙ below_next clause),

@@ -1,5 +1,28 @@
 -- Rows that are put last in their predicates' groups.
-use Rattle.std.proofs.Common.{◌≡◌, ◌∙◌, Bool, true, false, cond, List, [], ◌∷◌, ◌++◌, append-nil, Option, Some, None, unwrap_or, map, filter, All, refl, sym, ap, subst}
+use Rattle.std.proofs.Common.{
+  ◌≡◌,
+  ◌∙◌,
+  Bool,
+  true,
+  false,
+  cond,
+  List,
+  [],
+  ◌∷◌,
+  ◌++◌,
+  append-nil,
+  Option,
+  Some,
+  None,
+  unwrap_or,
+  map,
+  filter,
+  All,
+  refl,
+  sym,
+  ap,
+  subst,
+}
 use Rattle.std.specs.Map.{lookup, set_value}
 use Rattle.indexmap.specs.IndexMap.{insert_entry}
 use Rattle.plai_theory.proofs.Options.{by_test}
@@ -31,7 +54,8 @@ module _ {V : Type 0} where
       let v : same_pred pred k ≡ true = same_pred-same pred k (same_pred-true pred e.0 u ∙ sym (same_pred-true k e.0 t)) in
       rw (u, v) (ap (λ (rows : List (Row V)). rows ++ row ∷ []) (sym is)))
       (λ u.
-      let v : same_pred pred k ≡ false = by_test (same_pred pred k) (λ w. let no' : true ≡ false = sym (same_pred-same pred e.0 (same_pred-true pred k w ∙ same_pred-true k e.0 t)) ∙ u in cc) (λ w. w) in
+      let v : same_pred pred k ≡ false = by_test (same_pred pred k)
+      (λ w. let no' : true ≡ false = sym (same_pred-same pred e.0 (same_pred-true pred k w ∙ same_pred-true k e.0 t)) ∙ u in cc) (λ w. w) in
       rw (u, v) (sym (append-nil (group_of es pred))))))
       (λ t.
       rw t (by_test (same_pred pred e.0)
@@ -56,14 +80,16 @@ module _ {V : Type 0} where
       (λ u. rw u (absent es k row (rw t at h) pred))))
 
   -- as rows of patterns
-  pub group_plain : (value_of : V → Abs) (rows : List (Row V)) (pred : PredKey) → map (plain value_of) (filter (is_of pred) rows) ≡ rows_of pred (map (plain value_of) rows)
+  pub group_plain : (value_of : V → Abs) (rows : List (Row V)) (pred : PredKey)
+      → map (plain value_of) (filter (is_of pred) rows) ≡ rows_of pred (map (plain value_of) rows)
   group_plain value_of [] pred = refl
   group_plain value_of (row ∷ rows) pred =
       by_test (same_pred pred row.name.now.pred)
       (λ u. rw u (ap (λ rest. plain value_of row ∷ rest) (group_plain value_of rows pred)))
       (λ u. rw u (group_plain value_of rows pred))
 
-  pub group_fits : (value_of : V → Abs) (p : PlainDomain) (es : List (PredKey × List (Row V))) (rows : List (Row V)) → AreGroupsOf es rows → All (IsFit value_of p) rows
+  pub group_fits : (value_of : V → Abs) (p : PlainDomain) (es : List (PredKey × List (Row V))) (rows : List (Row V)) → AreGroupsOf es rows
+      → All (IsFit value_of p) rows
       → (pred : PredKey) → All (IsRowOf value_of p pred.arity) (group_of es pred)
   group_fits value_of p es rows are fit pred =
       subst (λ (some : List (Row V)). All (IsRowOf value_of p pred.arity) some) (sym (are pred))

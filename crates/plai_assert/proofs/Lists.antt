@@ -1,5 +1,35 @@
 -- Tests of all members of a list, of those that are left in, and of a list in another order.
-use Rattle.std.proofs.Common.{◌≡◌, ◌∙◌, ℕ, zero, suc, ◌+◌, ◌<◌, Bool, true, false, not, ◌&&◌, ◌||◌, cond, List, [], ◌∷◌, ◌++◌, map, filter, length, get_or, All, refl, sym, ap, inl, inr, arith}
+use Rattle.std.proofs.Common.{
+  ◌≡◌,
+  ◌∙◌,
+  ℕ,
+  zero,
+  suc,
+  ◌+◌,
+  ◌<◌,
+  Bool,
+  true,
+  false,
+  not,
+  ◌&&◌,
+  ◌||◌,
+  cond,
+  List,
+  [],
+  ◌∷◌,
+  ◌++◌,
+  map,
+  filter,
+  length,
+  get_or,
+  All,
+  refl,
+  sym,
+  ap,
+  inl,
+  inr,
+  arith,
+}
 use Rattle.std.specs.List.{list_all, list_any, AllByRecursion}
 use Rattle.std.specs.List.Sorted.{IsPermutation}
 use Rattle.std.proofs.lemmas.List.Sorted.{list_any-IsPermutation}
@@ -28,7 +58,8 @@ all_moved t xs ys moved = all_by_none t xs ∙ ap not (list_any-IsPermutation (�
 pub filter_moved : {A : Type 0} (f t : A → Bool) (xs ys : List A) → IsPermutation xs ys → list_all t (filter f xs) ≡ list_all t (filter f ys)
 filter_moved f t xs ys moved = all_filter f t xs ∙ all_moved (λ x. not (f x) || t x) xs ys moved ∙ sym (all_filter f t ys)
 
-pub filters_moved : {A : Type 0} (g f t : A → Bool) (xs ys : List A) → IsPermutation xs ys → list_all t (filter g (filter f xs)) ≡ list_all t (filter g (filter f ys))
+pub filters_moved : {A : Type 0} (g f t : A → Bool) (xs ys : List A) → IsPermutation xs ys
+    → list_all t (filter g (filter f xs)) ≡ list_all t (filter g (filter f ys))
 filters_moved g f t xs ys moved = all_filter g t (filter f xs) ∙ filter_moved f (λ x. not (g x) || t x) xs ys moved ∙ sym (all_filter g t (filter f ys))
 
 -- a member of a list passes a test that all pass
@@ -54,7 +85,8 @@ in_at (y ∷ xs) zero x h e = inl (sym e)
 in_at (y ∷ xs) (suc n) x h e = inr (in_at xs n x (omega arith) e)
 
 -- what holds of all members that are left in
-filtered : {A : Type 0} (P Q : A → Type 0) (f : A → Bool) (xs : List A) → ((x : A) → f x ≡ true → P x → Q x) → AllByRecursion P xs → AllByRecursion Q (filter f xs)
+filtered : {A : Type 0} (P Q : A → Type 0) (f : A → Bool) (xs : List A) → ((x : A) → f x ≡ true → P x → Q x) → AllByRecursion P xs
+    → AllByRecursion Q (filter f xs)
 filtered P Q f [] k h = tt
 filtered P Q f (x ∷ xs) k h = by_test (f x) (λ u. rw u (k x u h.0, filtered P Q f xs k h.1)) (λ u. rw u (filtered P Q f xs k h.1))
 

@@ -38,7 +38,8 @@ pub verdict_told : (kind : CheckKind) (p : PlainDomain) (check : Check) (rows : 
 verdict_told Calls p check rows = refl
 verdict_told Success p check rows =
     let out : PlainRow → Bool = λ row. excludes_one p check.pre row.name.call in
-    told _ _ _ _ (all_kept out (λ row. of_answer (entails_all p check.post) row.answer) rows) (all_kept out (λ row. of_answer (excludes_one p check.post) row.answer) rows)
+    told _ _ _ _ (all_kept out (λ row. of_answer (entails_all p check.post) row.answer) rows)
+    (all_kept out (λ row. of_answer (excludes_one p check.post) row.answer) rows)
 
 -- without rows
 pub verdict_none : (kind : CheckKind) (p : PlainDomain) (check : Check) → verdict_of_kind kind p check [] ≡ Checked
@@ -58,11 +59,14 @@ verdicts_found value_of p es rows are (check ∷ checks) =
 kind_moved : (kind : CheckKind) (p : PlainDomain) (check : Check) (rows others : List PlainRow) → IsPermutation rows others
     → verdict_of_kind kind p check (rows_of check.pred rows) ≡ verdict_of_kind kind p check (rows_of check.pred others)
 kind_moved Calls p check rows others moved =
-    told _ _ _ _ (filter_moved _ (λ row. entails_all p check.pre row.name.call) rows others moved) (filter_moved _ (λ row. excludes_one p check.pre row.name.call) rows others moved)
+    told _ _ _ _ (filter_moved _ (λ row. entails_all p check.pre row.name.call) rows others moved)
+    (filter_moved _ (λ row. excludes_one p check.pre row.name.call) rows others moved)
 kind_moved Success p check rows others moved =
-    told _ _ _ _ (filters_moved _ _ (λ row. of_answer (entails_all p check.post) row.answer) rows others moved) (filters_moved _ _ (λ row. of_answer (excludes_one p check.post) row.answer) rows others moved)
+    told _ _ _ _ (filters_moved _ _ (λ row. of_answer (entails_all p check.post) row.answer) rows others moved)
+    (filters_moved _ _ (λ row. of_answer (excludes_one p check.post) row.answer) rows others moved)
 
-pub verdicts_moved : (p : PlainDomain) (rows others : List PlainRow) (checks : List Check) → IsPermutation rows others → verdicts_of p rows checks ≡ verdicts_of p others checks
+pub verdicts_moved : (p : PlainDomain) (rows others : List PlainRow) (checks : List Check) → IsPermutation rows others
+    → verdicts_of p rows checks ≡ verdicts_of p others checks
 verdicts_moved p rows others [] moved = refl
 verdicts_moved p rows others (check ∷ checks) moved =
     let first = kind_moved check.kind p check rows others moved in

@@ -1,5 +1,37 @@
 -- Bits of masks: the all-true one, parts, and patterns.
-use Rattle.std.proofs.Common.{◌≡◌, ℕ, zero, suc, ◌+◌, ◌-◌, ◌*◌, ◌/◌, ◌%◌, ◌^◌, ◌≤◌, ◌<◌, Bool, true, false, nat_eq, cond, List, [], ◌∷◌, ◌++◌, length, get_or, take, map, sym, ap, ◌∙◌, arith, subst, length-take-le}
+use Rattle.std.proofs.Common.{
+  ◌≡◌,
+  ℕ,
+  zero,
+  suc,
+  ◌+◌,
+  ◌-◌,
+  ◌*◌,
+  ◌/◌,
+  ◌%◌,
+  ◌^◌,
+  ◌≤◌,
+  ◌<◌,
+  Bool,
+  true,
+  false,
+  nat_eq,
+  cond,
+  List,
+  [],
+  ◌∷◌,
+  ◌++◌,
+  length,
+  get_or,
+  take,
+  map,
+  sym,
+  ap,
+  ◌∙◌,
+  arith,
+  subst,
+  length-take-le,
+}
 use Rattle.std.specs.Int.{bit_at}
 use Rattle.std.proofs.lemmas.List.{take_more, map-append, length-map}
 use Rattle.std.proofs.lemmas.Bool.{eq-eqb}
@@ -93,4 +125,5 @@ pub pattern_without : {X : Type 0} (f : X → Bool) (xs : List X) (i : ℕ) (d :
 pattern_without f xs i d l e = pattern_more f xs i d l ∙ ap (λ b. pattern (map f (take i xs)) + cond b (2 ^ i) 0) e ∙ omega arith
 
 pub pattern_prefix_lt : {X : Type 0} (f : X → Bool) (xs : List X) (i : ℕ) → i ≤ length xs → pattern (map f (take i xs)) < 2 ^ i
-pattern_prefix_lt f xs i l = subst (λ k. pattern (map f (take i xs)) < 2 ^ k) (length-map (take i xs) f ∙ length-take-le i xs l) (pattern_lt (map f (take i xs)))
+pattern_prefix_lt f xs i l = subst (λ k. pattern (map f (take i xs)) < 2 ^ k) (length-map (take i xs) f ∙ length-take-le i xs l)
+    (pattern_lt (map f (take i xs)))

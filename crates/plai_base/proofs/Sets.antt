@@ -1,5 +1,35 @@
 -- Sets of masks: membership, and lists with the same members.
-use Rattle.std.proofs.Common.{◌≡◌, ℕ, zero, suc, ◌+◌, ◌<◌, Bool, true, false, ◌&&◌, ◌||◌, nat_eq, cond, List, [], ◌∷◌, ◌++◌, filter, length, get_or, take, inl, inr, refl, sym, ap, ◌∙◌, arith, subst}
+use Rattle.std.proofs.Common.{
+  ◌≡◌,
+  ℕ,
+  zero,
+  suc,
+  ◌+◌,
+  ◌<◌,
+  Bool,
+  true,
+  false,
+  ◌&&◌,
+  ◌||◌,
+  nat_eq,
+  cond,
+  List,
+  [],
+  ◌∷◌,
+  ◌++◌,
+  filter,
+  length,
+  get_or,
+  take,
+  inl,
+  inr,
+  refl,
+  sym,
+  ap,
+  ◌∙◌,
+  arith,
+  subst,
+}
 use Rattle.std.proofs.lemmas.Bool.{eq-eqb, eqb-true, eqb-false, and_parts, and_from, or_cases, or_left, or_right, false≢true}
 use Rattle.std.proofs.lemmas.List.Elements.{filter-append, filter_more}
 use Rattle.std.proofs.lemmas.List.{append-nil}
@@ -43,7 +73,8 @@ kept_has zero t m l e = absurd (omega (arith, l))
 kept_has (suc b) t m l e =
     has-append (kept b t) (cond (t b) (b ∷ []) []) m ∙
     by_test (nat_eq b m)
-    (λ q. or_right (has (kept b t) m) _ (subst (λ k. has (cond (t b) (b ∷ []) []) k ≡ true) (eqb-true b m q) (last_has (t b) b (subst (λ k. t k ≡ true) (sym (eqb-true b m q)) e))))
+    (λ q. or_right (has (kept b t) m) _ (subst (λ k. has (cond (t b) (b ∷ []) []) k ≡ true) (eqb-true b m q)
+    (last_has (t b) b (subst (λ k. t k ≡ true) (sym (eqb-true b m q)) e))))
     (λ q. let lower : m < b = omega (arith, l, eqb-false b m q) in or_left (has (kept b t) m) _ (kept_has b t m lower e))
 
 pub kept_same : (b : ℕ) (t u : ℕ → Bool) → ((m : ℕ) → m < b → t m ≡ u m) → kept b t ≡ kept b u
@@ -107,7 +138,8 @@ pub filter_within : (p : ℕ → Bool) (xs : List ℕ) → IsWithin (filter p xs
 filter_within p [] m e = e
 filter_within p (x ∷ xs) m e = filter_in (p x) x m (filter p xs) xs (filter_within p xs m) e
 
-filter_to : (c : Bool) (p : ℕ → Bool) (x m : ℕ) (fs xs : List ℕ) → p x ≡ c → (has xs m ≡ true → has fs m ≡ true) → p m ≡ true → (nat_eq x m || has xs m) ≡ true → has (cond c (x ∷ fs) fs) m ≡ true
+filter_to : (c : Bool) (p : ℕ → Bool) (x m : ℕ) (fs xs : List ℕ) → p x ≡ c → (has xs m ≡ true → has fs m ≡ true) → p m ≡ true
+    → (nat_eq x m || has xs m) ≡ true → has (cond c (x ∷ fs) fs) m ≡ true
 filter_to true p x m fs xs e k t h = elim (or_cases (nat_eq x m) (has xs m) h) [ inl q ↦ or_left _ _ q | inr q ↦ or_right _ _ (k q) ]
 filter_to false p x m fs xs e k t h =
     elim (or_cases (nat_eq x m) (has xs m) h) [ inl q ↦ absurd (false≢true (sym e ∙ ap p (eqb-true x m q) ∙ t)) | inr q ↦ k q ]

@@ -22,14 +22,16 @@ Answers-grown {t} {u} {k} {least} {f} g a =
       answers = λ at. ap (λ x. value x at) e ∙ a.answers at;
     }
 
-pub Answers-as : {t : List Node} {k least low : ℕ} {f g : Assignment → Bool} → low ≤ least → ((at : Assignment) → f at ≡ g at) → Answers t k least f → Answers t k low g
+pub Answers-as : {t : List Node} {k least low : ℕ} {f g : Assignment → Bool} → low ≤ least → ((at : Assignment) → f at ≡ g at) → Answers t k least f
+    → Answers t k low g
 Answers-as {t} {k} {least} {low} h same a = record {
   inside = a.inside;
   reduced = IsReduced-lower (tree_at t k) least low h a.reduced;
   answers = λ at. a.answers at ∙ same at;
 }
 
-pub Adds-as : {t u : List Node} {k least low : ℕ} {f g : Assignment → Bool} → low ≤ least → ((at : Assignment) → f at ≡ g at) → Adds t k u least f → Adds t k u low g
+pub Adds-as : {t u : List Node} {k least low : ℕ} {f g : Assignment → Bool} → low ≤ least → ((at : Assignment) → f at ≡ g at) → Adds t k u least f
+    → Adds t k u low g
 Adds-as h same a = record { table = a.table; grown = a.grown; built = a.built; known = Answers-as h same a.known }
 
 -- a place that is there

@@ -1,5 +1,30 @@
 -- A list without a branch on a slot stands for a function that does not depend on it.
-use Rattle.std.proofs.Common.{◌≡◌, ℕ, zero, suc, ◌<◌, Bool, true, false, cond, nat_eq, ◌||◌, ◌-◌, List, [], ◌∷◌, length, get_or, refl, sym, ap, subst, ◌∙◌, true≢false, arith}
+use Rattle.std.proofs.Common.{
+  ◌≡◌,
+  ℕ,
+  zero,
+  suc,
+  ◌<◌,
+  Bool,
+  true,
+  false,
+  cond,
+  nat_eq,
+  ◌||◌,
+  ◌-◌,
+  List,
+  [],
+  ◌∷◌,
+  length,
+  get_or,
+  refl,
+  sym,
+  ap,
+  subst,
+  ◌∙◌,
+  true≢false,
+  arith,
+}
 use Rattle.std.specs.List.{list_any}
 use Rattle.plai_base.specs.Mask.{has_slot}
 use Rattle.plai_bdd.specs.declared.node.Node.{Node}
@@ -28,7 +53,8 @@ module _ (t : List Node) (ok : IsTable t) (slot : ℕ) (none : list_any (λ node
   abbrev Alike : Tree → Type 0
   Alike tree = value tree (with_slot at slot b) ≡ value tree at
 
-  alike_by : (k : ℕ) (node : Node) → HasChildrenBelow k node → nat_eq (slot_of node) slot ≡ false → ((m : ℕ) → m < k → Alike (tree_at t m)) → Alike (tree_of_node (trees_of t) node)
+  alike_by : (k : ℕ) (node : Node) → HasChildrenBelow k node → nat_eq (slot_of node) slot ≡ false → ((m : ℕ) → m < k → Alike (tree_at t m))
+      → Alike (tree_of_node (trees_of t) node)
   alike_by k (Leaf answer) within other below = refl
   alike_by k (Branch s i j) within other below =
       let here : with_slot at slot b s ≡ at s = ap (λ c. cond c b (at s)) other in
@@ -39,7 +65,8 @@ module _ (t : List Node) (ok : IsTable t) (slot : ℕ) (none : list_any (λ node
   alike (suc n) k lt inside =
       let is = ok.unfolds k inside in
       ap (λ tree. value tree (with_slot at slot b)) is
-      ∙ alike_by k (get_or t k no_node) (ok.below k inside) (none_at (λ node. nat_eq (slot_of node) slot) t k none inside) (λ m le. alike n m (omega arith) (omega arith))
+      ∙ alike_by k (get_or t k no_node) (ok.below k inside) (none_at (λ node. nat_eq (slot_of node) slot) t k none inside)
+      (λ m le. alike n m (omega arith) (omega arith))
       ∙ sym (ap (λ tree. value tree at) is)
 
 pub unused_free : (t : List Node) (slot : ℕ) → IsCanonical t → list_any (λ node. nat_eq (slot_of node) slot) t ≡ false → IsFree (holds t) slot
@@ -69,7 +96,8 @@ unused_seen self inside seen slot r c e f found none =
 pub unused_is : (self : List Node) (slot mask : ℕ) → IsCanonical self → IsFree (holds self) slot → IsFunction self (some_slot mask slot (holds self))
 unused_is self slot mask c free = record { canonical = c; answers = some_unused (holds self) slot free mask }
 
-pub without_slot : (self : List Node) (slot mask : ℕ) (r : Bool) → IsCanonical self → r ≡ has_slot mask slot → r ≡ false → IsFunction self (some_slot mask slot (holds self))
+pub without_slot : (self : List Node) (slot mask : ℕ) (r : Bool) → IsCanonical self → r ≡ has_slot mask slot → r ≡ false
+    → IsFunction self (some_slot mask slot (holds self))
 without_slot self slot mask r c has none = record {
   canonical = c;
   answers = λ at. sym (ap (λ b. cond b (holds self (with_slot at slot false) || holds self (with_slot at slot true)) (holds self at)) (sym has ∙ none));

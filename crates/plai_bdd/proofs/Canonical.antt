@@ -1,5 +1,29 @@
 -- Canonical lists: what was built into the empty table is one, and equal functions have equal lists.
-use Rattle.std.proofs.Common.{◌≡◌, ◌≢◌, ℕ, suc, ◌+◌, ◌<◌, ◌≤◌, Bool, List, [], ◌∷◌, ◌++◌, length, get_or, sym, ap, subst, ◌∙◌, arith, ◌⊎◌, inl, inr, length-append}
+use Rattle.std.proofs.Common.{
+  ◌≡◌,
+  ◌≢◌,
+  ℕ,
+  suc,
+  ◌+◌,
+  ◌<◌,
+  ◌≤◌,
+  Bool,
+  List,
+  [],
+  ◌∷◌,
+  ◌++◌,
+  length,
+  get_or,
+  sym,
+  ap,
+  subst,
+  ◌∙◌,
+  arith,
+  ◌⊎◌,
+  inl,
+  inr,
+  length-append,
+}
 use Rattle.plai_bdd.specs.Assignment.{Assignment}
 use Rattle.plai_bdd.specs.declared.node.Node.{Node}
 use Rattle.plai_bdd.specs.declared.node.Node.TheVariants.{Leaf, Branch}
@@ -27,7 +51,8 @@ Small tree t u = (k : ℕ) → k < length u → (k < length t) ⊎ (size (tree_a
 put_small : (node : Node) (t : List Node) (k : ℕ) → k < length (put node t) → (k < length t) ⊎ (k ≡ place_of node t)
 put_small node t k h = by (puts node t).either
   where
-    by : (put node t ≡ t) ⊎ ((put node t ≡ t ++ node ∷ []) × (place_of node t ≡ length t) × ((m : ℕ) → m < length t → get_or t m no_node ≢ node)) → (k < length t) ⊎ (k ≡ place_of node t)
+    by : (put node t ≡ t) ⊎ ((put node t ≡ t ++ node ∷ []) × (place_of node t ≡ length t) × ((m : ℕ) → m < length t → get_or t m no_node ≢ node))
+        → (k < length t) ⊎ (k ≡ place_of node t)
     by (inl e) = inl (subst (λ l. k < length l) e h)
     by (inr new) =
         let g : k < length (t ++ node ∷ []) = subst (λ l. k < length l) new.0 h in
@@ -36,11 +61,13 @@ put_small node t k h = by (puts node t).either
         grind arith
 
 -- what is added for a tree is no larger than the tree
-small_fork : (s : ℕ) (l h : Tree) (t u v : List Node) (i j : ℕ) → IsGrown t u → IsGrown u v → IsBuilt (Fork s l h) t (place_of (Branch s i j) v) (put (Branch s i j) v)
+small_fork : (s : ℕ) (l h : Tree) (t u v : List Node) (i j : ℕ) → IsGrown t u → IsGrown u v
+    → IsBuilt (Fork s l h) t (place_of (Branch s i j) v) (put (Branch s i j) v)
     → Small l t u → Small h u v → Small (Fork s l h) t (put (Branch s i j) v)
 small_fork s l h t u v i j g g' done first second k lt = by (put_small (Branch s i j) v k lt)
   where
-    by_low : k < length v → k < length u → (k < length t) ⊎ (size (tree_at u k) ≤ size l) → (k < length t) ⊎ (size (tree_at (put (Branch s i j) v) k) ≤ size (Fork s l h))
+    by_low : k < length v → k < length u → (k < length t) ⊎ (size (tree_at u k) ≤ size l)
+        → (k < length t) ⊎ (size (tree_at (put (Branch s i j) v) k) ≤ size (Fork s l h))
     by_low hv hu (inl old) = inl old
     by_low hv hu (inr le) = let e = ap size ((put_grown v (Branch s i j)).trees k hv ∙ g'.trees k hu) in inr (omega (arith, e))
 
@@ -74,16 +101,22 @@ last_fork : (s : ℕ) (l h : Tree) (t u v : List Node) (i j : ℕ) → ((k : ℕ
     → suc (place_of (Branch s i j) v) ≡ length (put (Branch s i j) v)
 last_fork s l h t u v i j fresh g g' done first second = by (puts (Branch s i j) v).either
   where
-    by_low : (place_of (Branch s i j) v) < length v → (place_of (Branch s i j) v) < length u → ((place_of (Branch s i j) v) < length t) ⊎ (size (tree_at u (place_of (Branch s i j) v)) ≤ size l) → ⊥
-    by_low hv hu (inl ht) = fresh (place_of (Branch s i j) v) ht (sym (g.trees (place_of (Branch s i j) v) ht) ∙ sym (g'.trees (place_of (Branch s i j) v) hu) ∙ sym ((put_grown v (Branch s i j)).trees (place_of (Branch s i j) v) hv) ∙ done.here)
-    by_low hv hu (inr le) = let e = ap size (sym (g'.trees (place_of (Branch s i j) v) hu) ∙ sym ((put_grown v (Branch s i j)).trees (place_of (Branch s i j) v) hv) ∙ done.here) in omega (arith, e)
+    by_low : (place_of (Branch s i j) v) < length v → (place_of (Branch s i j) v) < length u
+        → ((place_of (Branch s i j) v) < length t) ⊎ (size (tree_at u (place_of (Branch s i j) v)) ≤ size l) → ⊥
+    by_low hv hu (inl ht) = fresh (place_of (Branch s i j) v) ht
+        (sym (g.trees (place_of (Branch s i j) v) ht) ∙ sym (g'.trees (place_of (Branch s i j) v) hu)
+        ∙ sym ((put_grown v (Branch s i j)).trees (place_of (Branch s i j) v) hv) ∙ done.here)
+    by_low hv hu (inr le) = let e = ap size (sym (g'.trees (place_of (Branch s i j) v) hu)
+        ∙ sym ((put_grown v (Branch s i j)).trees (place_of (Branch s i j) v) hv) ∙ done.here) in omega (arith, e)
 
     by_high : (place_of (Branch s i j) v) < length v → ((place_of (Branch s i j) v) < length u) ⊎ (size (tree_at v (place_of (Branch s i j) v)) ≤ size h) → ⊥
     by_high hv (inl hu) = by_low hv hu (first (place_of (Branch s i j) v) hu)
     by_high hv (inr le) = let e = ap size (sym ((put_grown v (Branch s i j)).trees (place_of (Branch s i j) v) hv) ∙ done.here) in omega (arith, e)
 
-    by : (put (Branch s i j) v ≡ v) ⊎ ((put (Branch s i j) v ≡ v ++ (Branch s i j) ∷ []) × (place_of (Branch s i j) v ≡ length v) × ((m : ℕ) → m < length v → get_or v m no_node ≢ (Branch s i j))) → suc (place_of (Branch s i j) v) ≡ length (put (Branch s i j) v)
-    by (inl stays) = let hv : (place_of (Branch s i j) v) < length v = subst (λ w. (place_of (Branch s i j) v) < length w) stays done.inside in absurd (by_high hv (second (place_of (Branch s i j) v) hv))
+    by : (put (Branch s i j) v ≡ v) ⊎ ((put (Branch s i j) v ≡ v ++ (Branch s i j) ∷ []) × (place_of (Branch s i j) v ≡ length v)
+        × ((m : ℕ) → m < length v → get_or v m no_node ≢ (Branch s i j))) → suc (place_of (Branch s i j) v) ≡ length (put (Branch s i j) v)
+    by (inl stays) = let hv : (place_of (Branch s i j) v) < length v = subst (λ w. (place_of (Branch s i j) v) < length w) stays done.inside in
+        absurd (by_high hv (second (place_of (Branch s i j) v) hv))
     by (inr new) = omega (arith, new.1, ap length new.0, length-append v ((Branch s i j) ∷ []))
 
 last : (tree : Tree) (t : List Node) → IsTable t → ((k : ℕ) → k < length t → tree_at t k ≢ tree) → suc (build tree t).0 ≡ length (build tree t).1
@@ -92,8 +125,10 @@ last (Tip b) t ok fresh = subst (λ (p : ℕ × List Node). suc p.0 ≡ length p
     done : IsBuilt (Tip b) t (place_of (Leaf b) t) (put (Leaf b) t)
     done = subst (λ (p : ℕ × List Node). IsBuilt (Tip b) t p.0 p.1) (build-tip b t) (built (Tip b) t ok)
 
-    by : (put (Leaf b) t ≡ t) ⊎ ((put (Leaf b) t ≡ t ++ Leaf b ∷ []) × (place_of (Leaf b) t ≡ length t) × ((m : ℕ) → m < length t → get_or t m no_node ≢ Leaf b)) → suc (place_of (Leaf b) t) ≡ length (put (Leaf b) t)
-    by (inl stays) = absurd (fresh (place_of (Leaf b) t) (subst (λ w. place_of (Leaf b) t < length w) stays done.inside) (ap (λ w. tree_at w (place_of (Leaf b) t)) (sym stays) ∙ done.here))
+    by : (put (Leaf b) t ≡ t) ⊎ ((put (Leaf b) t ≡ t ++ Leaf b ∷ []) × (place_of (Leaf b) t ≡ length t)
+        × ((m : ℕ) → m < length t → get_or t m no_node ≢ Leaf b)) → suc (place_of (Leaf b) t) ≡ length (put (Leaf b) t)
+    by (inl stays) = absurd (fresh (place_of (Leaf b) t) (subst (λ w. place_of (Leaf b) t < length w) stays done.inside)
+        (ap (λ w. tree_at w (place_of (Leaf b) t)) (sym stays) ∙ done.here))
     by (inr new) = omega (arith, new.1, ap length new.0, length-append t (Leaf b ∷ []))
 last (Fork s l h) t ok fresh =
     let one = built l t ok in

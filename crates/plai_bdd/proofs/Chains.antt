@@ -1,5 +1,39 @@
 -- Chains: how the diagram of a conjunction grows, slot by slot.
-use Rattle.std.proofs.Common.{◌≡◌, ◌≢◌, ℕ, ◌+◌, ◌-◌, ◌<◌, ◌≤◌, Bool, true, false, cond, not, nat_eq, ◌&&◌, ◌||◌, IsTrue, List, [], ◌∷◌, ◌++◌, length, get_or, refl, sym, ap, subst, ◌∙◌, true≢false, arith, ◌⊎◌, inl, inr, length-append}
+use Rattle.std.proofs.Common.{
+  ◌≡◌,
+  ◌≢◌,
+  ℕ,
+  ◌+◌,
+  ◌-◌,
+  ◌<◌,
+  ◌≤◌,
+  Bool,
+  true,
+  false,
+  cond,
+  not,
+  nat_eq,
+  ◌&&◌,
+  ◌||◌,
+  IsTrue,
+  List,
+  [],
+  ◌∷◌,
+  ◌++◌,
+  length,
+  get_or,
+  refl,
+  sym,
+  ap,
+  subst,
+  ◌∙◌,
+  true≢false,
+  arith,
+  ◌⊎◌,
+  inl,
+  inr,
+  length-append,
+}
 use Rattle.std.proofs.Math.Bool.{and-true}
 use Rattle.std.proofs.lemmas.Bool.Decides.{nat_tests}
 use Rattle.plai_base.specs.Mask.{has_slot}
@@ -68,7 +102,8 @@ module _ (k : ℕ) (t : List Node) (rest : Assignment → Bool) (below : k < 64)
       let joined : Adds start (joined_place k 0 (length t - 1) t) (joined_table k 0 (length t - 1) t) k link = Adds-join low high below (λ at. refl) in
       let e = pushed t k 0 (length t - 1) high.table (omega arith) (λ same. omega arith) in
       let last : length t ≡ length longer - 1 = omega (arith, length-append t (Branch k 0 (length t - 1) ∷ [])) in
-      subst (λ p. Adds start p longer k link) last (subst (λ u. Adds start (length t) u k link) e.1 (subst (λ p. Adds start p (joined_table k 0 (length t - 1) t) k link) e.0 joined))
+      subst (λ p. Adds start p longer k link) last
+      (subst (λ u. Adds start (length t) u k link) e.1 (subst (λ p. Adds start p (joined_table k 0 (length t - 1) t) k link) e.0 joined))
 
 and_link : (a b r : Bool) → (a && cond b r false) ≡ ((a && b) && r)
 and_link true true r = refl
@@ -123,4 +158,5 @@ chain_is all k t e slot within some chain =
 
 -- the empty set
 pub empty_is : (all : ℕ) (t : List Node) → all ≡ 0 → IsFunction t (λ _. true) → IsFunction t (conjunction all)
-empty_is all t e f = IsFunction-as (λ at. sym ((all_hold-Decides all 64 at).1 (λ k within has. absurd (true≢false (sym has ∙ ap (λ n. has_slot n k) e ∙ no_slots k))))) f
+empty_is all t e f = IsFunction-as (λ at. sym
+    ((all_hold-Decides all 64 at).1 (λ k within has. absurd (true≢false (sym has ∙ ap (λ n. has_slot n k) e ∙ no_slots k))))) f

@@ -55,7 +55,8 @@ AllSlots-holds : (P : ℕ → Type 0) (nodes : List Node) → IsCanonical nodes 
 AllSlots-holds P nodes c all = AllSlots-depends P (root_of nodes) 0 c.reduced all
 
 -- the slots of a list whose function can be changed can be placed
-pub AllSlots-placeable : (change : Change) (nodes : List Node) → IsCanonical nodes → IsPlaceable change (holds nodes) → AllSlots (can_place change) (root_of nodes)
+pub AllSlots-placeable : (change : Change) (nodes : List Node) → IsCanonical nodes → IsPlaceable change (holds nodes)
+    → AllSlots (can_place change) (root_of nodes)
 AllSlots-placeable change nodes c all = AllSlots-holds (can_place change) nodes c (λ slot bound. by slot bound (all slot))
   where
     by : (slot : ℕ) → (IsFree (holds nodes) slot → ⊥) → can_place change slot ⊎ IsFree (holds nodes) slot → can_place change slot
@@ -89,7 +90,8 @@ lower_places by f free slot = place (below_or_not slot by)
     place (inr fits) = inl fits
 
 -- a tree whose slots are all below the bound answers alike where the assignments agree below it
-value-below : (t : Tree) (bound : ℕ) → AllSlots (λ slot. slot < bound) t → (at other : Assignment) → ((k : ℕ) → k < bound → at k ≡ other k) → value t at ≡ value t other
+value-below : (t : Tree) (bound : ℕ) → AllSlots (λ slot. slot < bound) t → (at other : Assignment) → ((k : ℕ) → k < bound → at k ≡ other k)
+    → value t at ≡ value t other
 value-below (Tip b) bound r at other same = refl
 value-below (Fork s l h) bound r at other same =
     (λ i. cond (same s r.0 i) (value-below h bound r.2 at other same i) (value-below l bound r.1 at other same i))

@@ -62,7 +62,8 @@ IsFunction-as same h = record { canonical = h.canonical; answers = λ at. h.answ
 pub some_of : (items seen : List Node) → IsCanonical items → seen ≡ items → 0 < length seen
 some_of items seen c e = subst (λ l. 0 < length l) (sym e) (rooted items c).some
 
-pub source_of : (change : Change) (items now seen : List Node) → IsCanonical items → items ≡ now → seen ≡ items → IsPlaceable change (holds now) → IsSource change seen (length seen - 1)
+pub source_of : (change : Change) (items now seen : List Node) → IsCanonical items → items ≡ now → seen ≡ items → IsPlaceable change (holds now)
+    → IsSource change seen (length seen - 1)
 source_of change items now seen c e f fits =
     let canonical : IsCanonical seen = subst IsCanonical (sym f) c in
     root_source change seen canonical (AllSlots-placeable change seen canonical (subst (λ l. IsPlaceable change (holds l)) (sym e ∙ sym f) fits))

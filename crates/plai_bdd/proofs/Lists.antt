@@ -1,5 +1,37 @@
 -- Tables of nodes: each node once, children before parents.
-use Rattle.std.proofs.Common.{◌≡◌, ◌≢◌, ℕ, ◌+◌, ◌<◌, Bool, true, false, cond, not, nat_eq, ◌&&◌, ◌||◌, List, [], ◌∷◌, ◌++◌, length, get_or, fold, refl, sym, ap, subst, ◌∙◌, true≢false, arith, ◌⊎◌, inl, inr, length-append}
+use Rattle.std.proofs.Common.{
+  ◌≡◌,
+  ◌≢◌,
+  ℕ,
+  ◌+◌,
+  ◌<◌,
+  Bool,
+  true,
+  false,
+  cond,
+  not,
+  nat_eq,
+  ◌&&◌,
+  ◌||◌,
+  List,
+  [],
+  ◌∷◌,
+  ◌++◌,
+  length,
+  get_or,
+  fold,
+  refl,
+  sym,
+  ap,
+  subst,
+  ◌∙◌,
+  true≢false,
+  arith,
+  ◌⊎◌,
+  inl,
+  inr,
+  length-append,
+}
 use Rattle.std.specs.Bool.{beq}
 use Rattle.std.specs.List.{list_any, position_or_len}
 use Rattle.std.proofs.lemmas.Bool.Decides.{nat_tests}
@@ -99,7 +131,12 @@ puts_by node t false e =
     record {
       inside = subst (λ l. place_of node t < length l) (sym grows) (omega (arith, last, length-append t (node ∷ [])));
       here = ap (λ l. get_or l (place_of node t) no_node) grows ∙ get_or_push t node no_node (place_of node t) (sym last);
-      either = inr (grows, last, λ k lt same. true≢false (sym (same_node-of _ _ (sym same)) ∙ fails_before_first (same_node node) t k no_node (omega (arith, last))));
+      either = inr (
+        grows,
+        last,
+        λ k lt same. true≢false
+            (sym (same_node-of _ _ (sym same)) ∙ fails_before_first (same_node node) t k no_node (omega (arith, last))),
+      );
     }
 
 pub puts : (node : Node) (t : List Node) → Puts node t
@@ -121,7 +158,9 @@ unfolding trees_of
 length-trees_of t = omega (arith, length-fold [] t)
 
 pub tree_at-before : (t : List Node) (node : Node) (k : ℕ) → k < length t → tree_at (t ++ node ∷ []) k ≡ tree_at t k
-tree_at-before t node k h = ap (λ l. get_or l k (Tip false)) (trees_of-push t node) ∙ get_or_append_left (trees_of t) _ (Tip false) k (omega (arith, length-trees_of t))
+tree_at-before t node k h = ap (λ l. get_or l k (Tip false)) (trees_of-push t node)
+    ∙ get_or_append_left (trees_of t) _ (Tip false) k (omega (arith, length-trees_of t))
 
 pub tree_at-last : (t : List Node) (node : Node) (k : ℕ) → length t ≡ k → tree_at (t ++ node ∷ []) k ≡ tree_of_node (trees_of t) node
-tree_at-last t node k h = ap (λ l. get_or l k (Tip false)) (trees_of-push t node) ∙ get_or_push (trees_of t) (tree_of_node (trees_of t) node) (Tip false) k (omega (arith, length-trees_of t))
+tree_at-last t node k h = ap (λ l. get_or l k (Tip false)) (trees_of-push t node)
+    ∙ get_or_push (trees_of t) (tree_of_node (trees_of t) node) (Tip false) k (omega (arith, length-trees_of t))

@@ -35,10 +35,12 @@ unfolding mask_below
 mask_below-slot n at k lt = pattern_slot (answers_below n at) k ∙ answers_below-at n at k lt
 
 -- a function of the slots below the bound answers at an assignment as at a mask
-pub at_mask : (nodes : List Node) (bound : ℕ) → IsCanonical nodes → IsOver bound nodes → (at : Assignment) → holds nodes at ≡ is_model nodes (mask_below bound at)
+pub at_mask : (nodes : List Node) (bound : ℕ) → IsCanonical nodes → IsOver bound nodes → (at : Assignment)
+    → holds nodes at ≡ is_model nodes (mask_below bound at)
 at_mask nodes bound c over at = holds-below nodes bound c over at (has_slot (mask_below bound at)) (λ k lt. sym (mask_below-slot bound at k lt))
 
-module _ (left right : List Node) (bound : ℕ) (cl : IsCanonical left) (cr : IsCanonical right) (over_left : IsOver bound left) (over_right : IsOver bound right) where
+module _ (left right : List Node) (bound : ℕ) (cl : IsCanonical left) (cr : IsCanonical right) (over_left : IsOver bound left)
+    (over_right : IsOver bound right) where
   pub same_models : HaveSameModels bound left right → left ≡ right
   same_models same =
       same_nodes left right cl cr

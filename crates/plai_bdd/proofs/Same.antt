@@ -52,13 +52,17 @@ roots_decide r left right self other e f d =
     let P : List Node → Type 0 = λ l. IsTrue r ↔ Implies (root_of l) (root_of other) in
     subst P e (subst (λ l. IsTrue r ↔ Implies (root_of left) (root_of l)) f d)
 
-pub either_at : (a b first second root : ℕ) (nodes : List Node) → a < 64 → b < 64 → first ≡ min a b → second ≡ max a b → nodes ≡ either_nodes first second → root ≡ either_root a b → IsEither nodes root a b
+pub either_at : (a b first second root : ℕ) (nodes : List Node) → a < 64 → b < 64 → first ≡ min a b → second ≡ max a b → nodes ≡ either_nodes first second
+    → root ≡ either_root a b → IsEither nodes root a b
 either_at a b first second root nodes fits_a fits_b e f g h =
     let all : nodes ≡ either_nodes (min a b) (max a b) = g ∙ (λ x. either_nodes (e x) (f x)) in
     let P : List Node → Type 0 = λ l. IsEither l root a b in
     subst P (sym all) (subst (λ k. IsEither (either_nodes (min a b) (max a b)) k a b) (sym h) (either_is a b fits_a fits_b))
 
-pub forces_decided : (r : Bool) (self left right : List Node) (root a b : ℕ) → left ≡ self → IsEither right root a b → IsTrue r ↔ Implies (root_of left) (tree_at right root)
+pub forces_decided : (r : Bool) (self left right : List Node) (root a b : ℕ) → left ≡ self → IsEither right root a b
+    → IsTrue r ↔ Implies (root_of left) (tree_at right root)
     → IsTrue r ↔ ((at : Assignment) → IsTrue (holds self at) → IsTrue (at a || at b))
-forces_decided r self left right root a b e either d =
-    (λ h at this. sym (either.answers at) ∙ d.0 h at (ap (λ l. holds l at) e ∙ this), λ all. d.1 (λ at this. either.answers at ∙ all at (ap (λ l. holds l at) (sym e) ∙ this)))
+forces_decided r self left right root a b e either d = (
+  λ h at this. sym (either.answers at) ∙ d.0 h at (ap (λ l. holds l at) e ∙ this),
+  λ all. d.1 (λ at this. either.answers at ∙ all at (ap (λ l. holds l at) (sym e) ∙ this)),
+)

@@ -1,5 +1,36 @@
 -- The slots that a list of nodes branches on, as a set; a list that is true at all assignments.
-use Rattle.std.proofs.Common.{◌≡◌, ◌≢◌, ℕ, ◌+◌, ◌^◌, ◌<◌, ◌≤◌, Bool, true, false, ◌||◌, ◌↔◌, IsTrue, nat_eq, bit_or, List, [], ◌∷◌, length, get_or, take, refl, sym, ap, subst, ◌∙◌, ◌⊎◌, inl, inr, arith}
+use Rattle.std.proofs.Common.{
+  ◌≡◌,
+  ◌≢◌,
+  ℕ,
+  ◌+◌,
+  ◌^◌,
+  ◌<◌,
+  ◌≤◌,
+  Bool,
+  true,
+  false,
+  ◌||◌,
+  ◌↔◌,
+  IsTrue,
+  nat_eq,
+  bit_or,
+  List,
+  [],
+  ◌∷◌,
+  length,
+  get_or,
+  take,
+  refl,
+  sym,
+  ap,
+  subst,
+  ◌∙◌,
+  ◌⊎◌,
+  inl,
+  inr,
+  arith,
+}
 use Rattle.std.specs.List.{list_any}
 use Rattle.std.specs.Int.{bit_at}
 use Rattle.std.proofs.Math.Bool.{or-true}
@@ -61,10 +92,13 @@ pub branches_all : (slots : ℕ) (nodes : List Node) (i : ℕ) → length nodes 
 branches_all slots nodes i le old = subst (AreBranches slots) (take_all i nodes le) old
 
 -- the leaf true alone
-pub always_decides : (self : List Node) (r : Bool) → IsCanonical self → IsTrue r ↔ (self ≡ Leaf true ∷ []) → IsTrue r ↔ ((at : Assignment) → IsTrue (holds self at))
+pub always_decides : (self : List Node) (r : Bool) → IsCanonical self → IsTrue r ↔ (self ≡ Leaf true ∷ [])
+    → IsTrue r ↔ ((at : Assignment) → IsTrue (holds self at))
 always_decides self r c d =
-    let leaf = constant_is true in
-    (λ yes at. ap (λ l. holds l at) (d.0 yes) ∙ leaf.answers at, λ all. d.1 (same_nodes self (Leaf true ∷ []) c leaf.canonical (λ at. all at ∙ sym (leaf.answers at))))
+    let leaf = constant_is true in (
+      λ yes at. ap (λ l. holds l at) (d.0 yes) ∙ leaf.answers at,
+      λ all. d.1 (same_nodes self (Leaf true ∷ []) c leaf.canonical (λ at. all at ∙ sym (leaf.answers at))),
+    )
 
 -- the slot of one node more
 pub branch_added : (slots result slot : ℕ) (node : Node) (k : ℕ) → slot ≡ slot_of node → result ≡ bit_or slots (mask_of slot)

@@ -1,5 +1,39 @@
 -- The lines of a walk: what they have stays shown as pairs are noted.
-use Rattle.std.proofs.Common.{◌≡◌, ◌≢◌, ℕ, zero, suc, ◌/◌, ◌%◌, ◌^◌, ◌<◌, Bool, true, false, cond, nat_eq, ◌&&◌, bit_or, List, length, get_or, set, replicate, refl, sym, ap, subst, ◌∙◌, true≢false, arith, ◌⊎◌, inl, inr, get_or-set_same, get_or-set_other}
+use Rattle.std.proofs.Common.{
+  ◌≡◌,
+  ◌≢◌,
+  ℕ,
+  zero,
+  suc,
+  ◌/◌,
+  ◌%◌,
+  ◌^◌,
+  ◌<◌,
+  Bool,
+  true,
+  false,
+  cond,
+  nat_eq,
+  ◌&&◌,
+  bit_or,
+  List,
+  length,
+  get_or,
+  set,
+  replicate,
+  refl,
+  sym,
+  ap,
+  subst,
+  ◌∙◌,
+  true≢false,
+  arith,
+  ◌⊎◌,
+  inl,
+  inr,
+  get_or-set_same,
+  get_or-set_other,
+}
 use Rattle.std.specs.Int.{bit_at}
 use Rattle.std.proofs.lemmas.Bool.{eqb-true, eq-eqb, and_parts}
 use Rattle.std.proofs.lemmas.Nat.Bits.{bit_at_or, bit_at-zero, bit_at-pow_other}
@@ -22,7 +56,12 @@ slot_or mask slot k h = by (same_or_not k slot)
   where
     by : (k ≡ slot) ⊎ (k ≢ slot) → (has_slot mask k ≡ true) ⊎ (k ≡ slot)
     by (inl same) = inr same
-    by (inr other) = inl (eq-eqb _ 1 (omega (arith, eqb-true (bit_at (bit_or mask (mask_of slot)) k) 1 h, bit_at_or mask (2 ^ slot) k, bit_at-pow_other slot k other)))
+    by (inr other) = inl (eq-eqb _ 1 (omega (
+      arith,
+      eqb-true (bit_at (bit_or mask (mask_of slot)) k) 1 h,
+      bit_at_or mask (2 ^ slot) k,
+      bit_at-pow_other slot k other,
+    )))
 
 -- what a line's tests say
 line_is : (line : Line) (pair : Pair) → is_line_of line pair ≡ true → (line.right ≡ pair.right) × (line.block ≡ pair.left / 64)
@@ -80,7 +119,8 @@ shown_more left right lines place pair lt old here = record { implied = λ k p e
 
     by : (k : ℕ) (p : Pair) → shows (get_or (set lines place new) k no_line) p ≡ true → (k ≡ place) ⊎ (k ≢ place) → P p
     by k p e (inl same) =
-        let at : get_or (set lines place new) k no_line ≡ new = ap (λ n. get_or (set lines place new) n no_line) same ∙ get_or-set_same lines place new no_line lt in
+        let at : get_or (set lines place new) k no_line ≡ new =
+        ap (λ n. get_or (set lines place new) n no_line) same ∙ get_or-set_same lines place new no_line lt in
         one p (with_pair-shows (get_or lines place no_line) pair p (sym (ap (λ line. shows line p) at) ∙ e))
     by k p e (inr other) = old.implied k p (sym (ap (λ line. shows line p) (get_or-set_other lines place k new no_line other)) ∙ e)
 
@@ -96,7 +136,8 @@ and_false false b e = refl
 
 pub AreShown-none : (left right : List Node) (n : ℕ) → AreShown left right (replicate n no_line)
 AreShown-none left right n = record {
-  implied = λ k pair e. absurd (true≢false (sym e ∙ ap (λ line. shows line pair) (none_shown n k) ∙ and_false (is_line_of no_line pair) _ (no_slots (pair.left % 64))));
+  implied = λ k pair e. absurd (true≢false
+      (sym e ∙ ap (λ line. shows line pair) (none_shown n k) ∙ and_false (is_line_of no_line pair) _ (no_slots (pair.left % 64))));
 }
 
 pub lines_none : (left right : List Node) (lines : List Line) (line : Line) (n : ℕ) → lines ≡ replicate n line → line ≡ no_line → AreShown left right lines

@@ -1,5 +1,34 @@
 -- What conjunction and quantification over a set of slots say.
-use Rattle.std.proofs.Common.{◌≡◌, ℕ, zero, suc, ◌+◌, ◌<◌, Bool, true, false, cond, not, nat_eq, ◌&&◌, ◌||◌, ◌↔◌, IsTrue, List, refl, sym, ap, subst, ◌∙◌, true≢false, arith, ◌⊎◌, inl, inr, add-one}
+use Rattle.std.proofs.Common.{
+  ◌≡◌,
+  ℕ,
+  zero,
+  suc,
+  ◌+◌,
+  ◌<◌,
+  Bool,
+  true,
+  false,
+  cond,
+  not,
+  nat_eq,
+  ◌&&◌,
+  ◌||◌,
+  ◌↔◌,
+  IsTrue,
+  List,
+  refl,
+  sym,
+  ap,
+  subst,
+  ◌∙◌,
+  true≢false,
+  arith,
+  ◌⊎◌,
+  inl,
+  inr,
+  add-one,
+}
 use Rattle.std.proofs.lemmas.Bool.{and_parts, or_cases}
 use Rattle.std.proofs.lemmas.Bool.Decides.{nat_tests}
 use Rattle.std.specs.Bool.{beq}
@@ -51,7 +80,10 @@ all_hold-Decides mask (suc n) at = down_up (all_hold-Decides mask n at)
   where
     down_up : IsTrue (all_hold mask n at) ↔ ((k : ℕ) → k < n → IsTrue (has_slot mask k) → IsTrue (at k))
         → IsTrue (all_hold mask n at && (not (has_slot mask n) || at n)) ↔ ((k : ℕ) → k < suc n → IsTrue (has_slot mask k) → IsTrue (at k))
-    down_up d = (λ h k lt has. down (and_parts (all_hold mask n at) _ h) k has (last_or k n lt), λ all. (λ i. d.1 (λ k lt has. all k (omega arith) has) i && up all (has_slot mask n) refl i))
+    down_up d = (
+      λ h k lt has. down (and_parts (all_hold mask n at) _ h) k has (last_or k n lt),
+      λ all. (λ i. d.1 (λ k lt has. all k (omega arith) has) i && up all (has_slot mask n) refl i),
+    )
       where
         down : (all_hold mask n at ≡ true) × ((not (has_slot mask n) || at n) ≡ true) → (k : ℕ) → IsTrue (has_slot mask k) → (k < n) ⊎ (k ≡ n) → IsTrue (at k)
         down p k has (inl lt) = d.0 p.0 k lt has
@@ -118,7 +150,8 @@ pub put_back : (other : Assignment) (n : ℕ) (v : Bool) (k : ℕ) → with_slot
 put_back other n v k = by (here_or k n)
   where
     by : (k ≡ n) ⊎ (nat_eq k n ≡ false) → with_slot (with_slot other n v) n (other n) k ≡ other k
-    by (inl same) = let P : ℕ → Type 0 = λ m. with_slot (with_slot other n v) n (other n) m ≡ other m in subst P (sym same) (with_slot_same (with_slot other n v) n (other n))
+    by (inl same) = let P : ℕ → Type 0 = λ m. with_slot (with_slot other n v) n (other n) m ≡ other m in
+        subst P (sym same) (with_slot_same (with_slot other n v) n (other n))
     by (inr apart) = ap (λ c. cond c (other n) (with_slot other n v k)) apart ∙ ap (λ c. cond c v (other k)) apart
 
 module _ (mask n : ℕ) (f : Assignment → Bool) (at : Assignment) where
@@ -189,13 +222,16 @@ pub record HasLeft (mask bound : ℕ) (self rest : List Node) : Type 0 where
 pub left_start : (mask : ℕ) (self rest : List Node) → rest ≡ self → IsCanonical rest → HasLeft mask 64 self rest
 left_start mask self rest e c = record { canonical = c; left = λ at. ap (λ l. some_hold mask 64 (holds l) at) e }
 
-pub left_kept : (mask n m : ℕ) (self rest new : List Node) → m ≡ n + 1 → HasLeft mask m self rest → IsFunction new (some_slot mask n (holds rest)) → HasLeft mask n self new
-left_kept mask n m self rest new e old step = record { canonical = step.canonical; left = left_step mask n m (holds self) (holds rest) (holds new) e old.left step.answers }
+pub left_kept : (mask n m : ℕ) (self rest new : List Node) → m ≡ n + 1 → HasLeft mask m self rest → IsFunction new (some_slot mask n (holds rest))
+    → HasLeft mask n self new
+left_kept mask n m self rest new e old step =
+    record { canonical = step.canonical; left = left_step mask n m (holds self) (holds rest) (holds new) e old.left step.answers }
 
 pub left_none : (mask n : ℕ) (self rest : List Node) → n ≡ 0 → HasLeft mask n self rest → IsFunction rest (quantified mask (holds self))
 left_none mask n self rest e h = record { canonical = h.canonical; answers = left_all mask n (holds self) (holds rest) e h.left }
 
-pub some_meaning : (mask : ℕ) (f : Assignment → Bool) (t : List Node) → IsFunction t (quantified mask f) → (at : Assignment) → IsTrue (holds t at) ↔ Somewhere mask f at
+pub some_meaning : (mask : ℕ) (f : Assignment → Bool) (t : List Node) → IsFunction t (quantified mask f) → (at : Assignment)
+    → IsTrue (holds t at) ↔ Somewhere mask f at
 some_meaning mask f t h at =
     let d = some_hold-Decides mask 64 f at in
     (λ this. d.0 (sym (h.answers at) ∙ this), λ s. h.answers at ∙ d.1 s)
@@ -211,7 +247,8 @@ differ_with mask slot lt e at b k = by (here_or k slot)
 differ_then : (mask n : ℕ) (x y z : Assignment) → DifferBelow mask n x y → DifferBelow mask n y z → DifferBelow mask n x z
 differ_then mask n x y z d e k = by (d k) (e k)
   where
-    by : (x k ≡ y k) ⊎ ((k < n) × IsTrue (has_slot mask k)) → (y k ≡ z k) ⊎ ((k < n) × IsTrue (has_slot mask k)) → (x k ≡ z k) ⊎ ((k < n) × IsTrue (has_slot mask k))
+    by : (x k ≡ y k) ⊎ ((k < n) × IsTrue (has_slot mask k)) → (y k ≡ z k) ⊎ ((k < n) × IsTrue (has_slot mask k))
+        → (x k ≡ z k) ⊎ ((k < n) × IsTrue (has_slot mask k))
     by (inl p) (inl q) = inl (p ∙ q)
     by (inl p) (inr q) = inr q
     by (inr p) _ = inr p
@@ -239,7 +276,8 @@ quantified-free mask slot lt e f at b =
     (λ h. let s = there.0 h in here.1 (s.0, (differ_then mask 64 s.0 other at s.1.0 d, s.1.1)))
     (λ h. let s = here.0 h in there.1 (s.0, (differ_then mask 64 s.0 at other s.1.0 (differ_back mask 64 other at d), s.1.1)))
 
-pub some_free : (mask : ℕ) (f : Assignment → Bool) (t : List Node) → IsFunction t (quantified mask f) → (slot : ℕ) → slot < 64 → IsTrue (has_slot mask slot) → IsFree (holds t) slot
+pub some_free : (mask : ℕ) (f : Assignment → Bool) (t : List Node) → IsFunction t (quantified mask f) → (slot : ℕ) → slot < 64 → IsTrue (has_slot mask slot)
+    → IsFree (holds t) slot
 some_free mask f t h slot lt e at b = h.answers (with_slot at slot b) ∙ quantified-free mask slot lt e f at b ∙ sym (h.answers at)
 
 pub all_meaning : (mask : ℕ) (t : List Node) → IsFunction t (conjunction mask) → (at : Assignment) → IsTrue (holds t at) ↔ AllTrue mask at

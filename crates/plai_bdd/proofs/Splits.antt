@@ -81,7 +81,8 @@ module _ (change : Change) (t : List Node) (place : ℕ) (node : Node) (src : Is
   within_is = subst (HasChildrenBelow place) is (src.table.below place src.inside)
 
 -- the slot of a place's node is the top of its tree
-pub top_is : (change : Change) (t : List Node) (place : ℕ) (node : Node) → IsSource change t place → get_or t place no_node ≡ node → top_of (tree_at t place) ≡ slot_of node
+pub top_is : (change : Change) (t : List Node) (place : ℕ) (node : Node) → IsSource change t place → get_or t place no_node ≡ node
+    → top_of (tree_at t place) ≡ slot_of node
 top_is change t place (Leaf b) src is = ap top_of (tree_is change t place (Leaf b) src is)
 top_is change t place (Branch s i j) src is = ap top_of (tree_is change t place (Branch s i j) src is)
 

@@ -1,5 +1,37 @@
 -- The steps of combining two places: leaves, a slot that is placed, a slot that is fixed, and what is noted.
-use Rattle.std.proofs.Common.{true≢false, Result, Ok, Err, IfOk, OnOk, ◌≡◌, ◌≢◌, ℕ, ◌+◌, ◌<◌, ◌≤◌, Bool, true, false, cond, nat_eq, min, ◌||◌, List, get_or, refl, sym, ap, subst, ◌∙◌, arith, ◌⊎◌, inl, inr, Some}
+use Rattle.std.proofs.Common.{
+  true≢false,
+  Result,
+  Ok,
+  Err,
+  IfOk,
+  OnOk,
+  ◌≡◌,
+  ◌≢◌,
+  ℕ,
+  ◌+◌,
+  ◌<◌,
+  ◌≤◌,
+  Bool,
+  true,
+  false,
+  cond,
+  nat_eq,
+  min,
+  ◌||◌,
+  List,
+  get_or,
+  refl,
+  sym,
+  ap,
+  subst,
+  ◌∙◌,
+  arith,
+  ◌⊎◌,
+  inl,
+  inr,
+  Some,
+}
 use Rattle.std.proofs.lemmas.Bool.{and_parts, or_cases}
 use Rattle.std.proofs.Math.Bool.{and-false, or-true}
 use Rattle.std.proofs.lemmas.Bool.Decides.{nat_tests}
@@ -15,7 +47,24 @@ use Rattle.plai_bdd.specs.declared.change.Placed.TheVariants.{At, Fixed, Parted}
 use Rattle.plai_bdd.specs.Change.{absorbs, answer_of, placed, can_place, moved, changed, top_of}
 use Rattle.plai_bdd.specs.Tree.{value}
 use Rattle.plai_bdd.specs.Nodes.{place_of, put, tree_at}
-use Rattle.plai_bdd.specs.Table.{no_node, IsTable, IsGrown, IsSource, Answers, Adds, IsMemo, slot_of, leaf_answer, is_absorbing, children_of, joined_place, joined_table, same_pair, least_of, function_of}
+use Rattle.plai_bdd.specs.Table.{
+  no_node,
+  IsTable,
+  IsGrown,
+  IsSource,
+  Answers,
+  Adds,
+  IsMemo,
+  slot_of,
+  leaf_answer,
+  is_absorbing,
+  children_of,
+  joined_place,
+  joined_table,
+  same_pair,
+  least_of,
+  function_of,
+}
 use Rattle.plai_bdd.proofs.Adding.{Answers-grown, Adds-as, Adds-leaf, Adds-join}
 use Rattle.plai_bdd.proofs.Tables.{IsGrown-same, put_grown}
 use Rattle.plai_bdd.proofs.Splits.{IsSplit, top_at_most, top_is, leaf_is, children_split, top_fits, placed_at, placed_fixed, placed_parted, moved_more}
@@ -68,7 +117,8 @@ module _ (connective : Connective) (change : Change) (left right : List Node) (i
       subst P (sym is) (Adds-as (omega arith) all (Adds-leaf x t (least_of change left right i j) ok))
 
   -- two leaves
-  pub leaves : (t : List Node) (node : Node) (slot : ℕ) → IsTable t → slot ≡ min (slot_of a) (slot_of b) → slot ≡ 64 → node ≡ Leaf (answer_of connective (leaf_answer a) (leaf_answer b))
+  pub leaves : (t : List Node) (node : Node) (slot : ℕ) → IsTable t → slot ≡ min (slot_of a) (slot_of b) → slot ≡ 64
+      → node ≡ Leaf (answer_of connective (leaf_answer a) (leaf_answer b))
       → Adds t (place_of node t) (put node t) (least_of change left right i j) (function_of connective change left right i j)
   leaves t node slot ok slot_is e is =
       let one = leaf_is change left i a left_is a_is (omega arith) in
@@ -86,15 +136,25 @@ module _ (connective : Connective) (change : Change) (left right : List Node) (i
       by at (inl h) = decides_left connective a b _ _ h (λ leaf. leaf_is change left i a left_is a_is leaf (changed change false at))
       by at (inr h) = decides_right connective a b _ _ h (λ leaf. leaf_is change right j b right_is b_is leaf (changed change true at))
 
-  module _ (slot : ℕ) (slot_is : slot ≡ min (slot_of a) (slot_of b)) (other : slot ≢ 64) (cl cr : ℕ × ℕ) (cl_is : cl ≡ children_of a slot i) (cr_is : cr ≡ children_of b slot j) where
+  module _ (slot : ℕ) (slot_is : slot ≡ min (slot_of a) (slot_of b)) (other : slot ≢ 64) (cl cr : ℕ × ℕ) (cl_is : cl ≡ children_of a slot i)
+      (cr_is : cr ≡ children_of b slot j) where
     lt : slot < 64
-    lt = omega (arith, other, top_is change left i a left_is a_is, top_at_most (tree_at left i) 0 left_is.reduced, top_is change right j b right_is b_is, top_at_most (tree_at right j) 0 right_is.reduced)
+    lt = omega (
+      arith,
+      other,
+      top_is change left i a left_is a_is,
+      top_at_most (tree_at left i) 0 left_is.reduced,
+      top_is change right j b right_is b_is,
+      top_at_most (tree_at right j) 0 right_is.reduced,
+    )
 
     pub left_split : IsSplit change left i slot cl.0 cl.1
-    left_split = let P : ℕ × ℕ → Type 0 = λ p. IsSplit change left i slot p.0 p.1 in subst P (sym cl_is) (children_split change left i a slot left_is a_is (omega arith) lt)
+    left_split = let P : ℕ × ℕ → Type 0 = λ p. IsSplit change left i slot p.0 p.1 in
+        subst P (sym cl_is) (children_split change left i a slot left_is a_is (omega arith) lt)
 
     pub right_split : IsSplit change right j slot cr.0 cr.1
-    right_split = let P : ℕ × ℕ → Type 0 = λ p. IsSplit change right j slot p.0 p.1 in subst P (sym cr_is) (children_split change right j b slot right_is b_is (omega arith) lt)
+    right_split = let P : ℕ × ℕ → Type 0 = λ p. IsSplit change right j slot p.0 p.1 in
+        subst P (sym cr_is) (children_split change right j b slot right_is b_is (omega arith) lt)
 
     pub can_be : can_place change slot
     can_be = by (least_is (slot_of a) (slot_of b))
@@ -138,7 +198,8 @@ module _ (connective : Connective) (change : Change) (left right : List Node) (i
     least_here = ap (moved change) (tops_are ∙ sym slot_is)
 
     -- the function at the two, by the children's, where the slot's answers on the two sides are known
-    split_at : (at : Assignment) (b c : Bool) → changed change false at slot ≡ b → changed change true at slot ≡ c → function_of connective change left right i j at
+    split_at : (at : Assignment) (b c : Bool) → changed change false at slot ≡ b → changed change true at slot ≡ c
+        → function_of connective change left right i j at
         ≡ answer_of connective (cond b (value (tree_at left cl.1) (changed change false at)) (value (tree_at left cl.0) (changed change false at)))
         (cond c (value (tree_at right cr.1) (changed change true at)) (value (tree_at right cr.0) (changed change true at)))
     split_at at b c e f =
@@ -206,7 +267,8 @@ some_is : (a b : ℕ) → Some a ≡ Some b → a ≡ b
 some_is a b h = cc
 
 -- a pair is noted
-pub memo_noted : {S : Type 0} (connective : Connective) (change : Change) (left right : List Node) (old new : IndexMap Pair ℕ S) (t : List Node) (pair : Pair) (place : ℕ)
+pub memo_noted : {S : Type 0} (connective : Connective) (change : Change) (left right : List Node) (old new : IndexMap Pair ℕ S) (t : List Node)
+    (pair : Pair) (place : ℕ)
     → IsMemo connective change left right old t → Updates same_pair old new pair (Some place)
     → Answers t place (least_of change left right pair.left pair.right) (function_of connective change left right pair.left pair.right)
     → IsMemo connective change left right new t
@@ -218,7 +280,8 @@ memo_noted {S} connective change left right old new t pair place m up here = rec
         let same = pair_is pair q h in
         let k_is : place ≡ k = some_is place k (sym up.1 ∙ ap (get same_pair new) same ∙ e) in
         let P : Pair → Type 0 = λ p. Answers t k (least_of change left right p.left p.right) (function_of connective change left right p.left p.right) in
-        subst P same (subst (λ n. Answers t n (least_of change left right pair.left pair.right) (function_of connective change left right pair.left pair.right)) k_is here)
+        subst P same (subst (λ n. Answers t n (least_of change left right pair.left pair.right)
+        (function_of connective change left right pair.left pair.right)) k_is here)
     by q k e false h = m.noted q k (sym (up.2 q h) ∙ e)
 
 -- facts on a result's value, taken together
@@ -234,16 +297,19 @@ pub ok_then : {A E : Type 0} (P R : A → Type 0) → ((a : A) → P a → R a) 
 ok_then P R f (Ok a) p = f a p
 ok_then P R f (Err e) p = tt
 
-pub placed_ok : {E : Type 0} {t v : List Node} {k least : ℕ} {f : Assignment → Bool} (u : List Node) (r : Result ℕ E) → IfOk r (λ p. p ≡ k) → OnOk r (u ≡ v) → Adds t k v least f
+pub placed_ok : {E : Type 0} {t v : List Node} {k least : ℕ} {f : Assignment → Bool} (u : List Node) (r : Result ℕ E) → IfOk r (λ p. p ≡ k) → OnOk r (u ≡ v)
+    → Adds t k v least f
     → IfOk r (λ p. Adds t p u least f)
 placed_ok {E} {t} {v} {k} {least} {f} u (Ok p) e s a =
     let P : List Node → Type 0 = λ w. Adds t p w least f in
     subst P (sym s) (subst (λ n. Adds t n v least f) (sym e) a)
 placed_ok u (Err x) e s a = tt
 
-pub memo_ok : {E S : Type 0} (connective : Connective) (change : Change) (left right : List Node) (memo : IndexMap Pair ℕ S) (t u v : List Node) (r : Result ℕ E) → OnOk r (u ≡ v)
+pub memo_ok : {E S : Type 0} (connective : Connective) (change : Change) (left right : List Node) (memo : IndexMap Pair ℕ S) (t u v : List Node)
+    (r : Result ℕ E) → OnOk r (u ≡ v)
     → IsGrown t v → IsMemo connective change left right memo t → OnOk r (IsMemo connective change left right memo u)
-memo_ok connective change left right memo t u v (Ok p) s g m = let P : List Node → Type 0 = λ w. IsMemo connective change left right memo w in subst P (sym s) (memo_grown connective change left right memo t v g m)
+memo_ok connective change left right memo t u v (Ok p) s g m = let P : List Node → Type 0 = λ w. IsMemo connective change left right memo w in
+    subst P (sym s) (memo_grown connective change left right memo t v g m)
 memo_ok connective change left right memo t u v (Err x) s g m = tt
 
 pub join_grown : (slot low high : ℕ) (t : List Node) → IsGrown t (joined_table slot low high t)

@@ -1,5 +1,29 @@
 -- Tables: how they grow.
-use Rattle.std.proofs.Common.{◌≡◌, ◌≢◌, ℕ, ◌+◌, ◌<◌, ◌≤◌, false, List, [], ◌∷◌, ◌++◌, length, get_or, refl, sym, ap, subst, ◌∙◌, arith, ◌⊎◌, inl, inr, length-append}
+use Rattle.std.proofs.Common.{
+  ◌≡◌,
+  ◌≢◌,
+  ℕ,
+  ◌+◌,
+  ◌<◌,
+  ◌≤◌,
+  false,
+  List,
+  [],
+  ◌∷◌,
+  ◌++◌,
+  length,
+  get_or,
+  refl,
+  sym,
+  ap,
+  subst,
+  ◌∙◌,
+  arith,
+  ◌⊎◌,
+  inl,
+  inr,
+  length-append,
+}
 use Rattle.std.proofs.lemmas.List.{get_or_append_left, get_or_push}
 use Rattle.plai_bdd.specs.declared.node.Node.{Node}
 use Rattle.plai_bdd.specs.declared.node.Node.TheVariants.{Leaf, Branch}
@@ -67,9 +91,11 @@ module _ (t : List Node) (node : Node) where
       kept : (k : ℕ) (n : Node) → k ≤ length t → HasChildrenBelow k n → tree_of_node (trees_of (t ++ node ∷ [])) n ≡ tree_of_node (trees_of t) n
       kept k n h within = node_kept (trees_of t) (trees_of (t ++ node ∷ [])) k n within (λ m lt. tree_at-before t node m (omega arith))
 
-      unfolds_by : (k : ℕ) → (k < length t) ⊎ (k ≡ length t) → tree_at (t ++ node ∷ []) k ≡ tree_of_node (trees_of (t ++ node ∷ [])) (get_or (t ++ node ∷ []) k no_node)
+      unfolds_by : (k : ℕ) → (k < length t) ⊎ (k ≡ length t)
+          → tree_at (t ++ node ∷ []) k ≡ tree_of_node (trees_of (t ++ node ∷ [])) (get_or (t ++ node ∷ []) k no_node)
       unfolds_by k (inl h) =
-          tree_at-before t node k h ∙ ok.unfolds k h ∙ sym (kept k _ (omega arith) (ok.below k h)) ∙ ap (tree_of_node (trees_of (t ++ node ∷ []))) (sym (push_before k h))
+          tree_at-before t node k h ∙ ok.unfolds k h ∙ sym (kept k _ (omega arith) (ok.below k h))
+          ∙ ap (tree_of_node (trees_of (t ++ node ∷ []))) (sym (push_before k h))
       unfolds_by k (inr e) =
           tree_at-last t node k (sym e) ∙ sym (kept (length t) node (omega arith) w) ∙ ap (tree_of_node (trees_of (t ++ node ∷ []))) (sym (push_last k e))
 
@@ -80,14 +106,16 @@ module _ (t : List Node) (node : Node) where
   pub put_grown : IsGrown t (put node t)
   put_grown = by (puts node t).either
     where
-      by : (put node t ≡ t) ⊎ ((put node t ≡ t ++ node ∷ []) × (place_of node t ≡ length t) × ((k : ℕ) → k < length t → get_or t k no_node ≢ node)) → IsGrown t (put node t)
+      by : (put node t ≡ t) ⊎ ((put node t ≡ t ++ node ∷ []) × (place_of node t ≡ length t) × ((k : ℕ) → k < length t → get_or t k no_node ≢ node))
+          → IsGrown t (put node t)
       by (inl e) = subst (IsGrown t) (sym e) (IsGrown-same t)
       by (inr h) = subst (IsGrown t) (sym h.0) push_grown
 
   pub put_table : IsTable t → HasChildrenBelow (length t) node → IsTable (put node t)
   put_table ok w = by (puts node t).either
     where
-      by : (put node t ≡ t) ⊎ ((put node t ≡ t ++ node ∷ []) × (place_of node t ≡ length t) × ((k : ℕ) → k < length t → get_or t k no_node ≢ node)) → IsTable (put node t)
+      by : (put node t ≡ t) ⊎ ((put node t ≡ t ++ node ∷ []) × (place_of node t ≡ length t) × ((k : ℕ) → k < length t → get_or t k no_node ≢ node))
+          → IsTable (put node t)
       by (inl e) = subst IsTable (sym e) ok
       by (inr h) = subst IsTable (sym h.0) (push_table ok w h.2)
 
@@ -99,7 +127,8 @@ module _ (t : List Node) (node : Node) where
   pub put_there : IsTable t → (k : ℕ) → k < length t → get_or t k no_node ≡ node → (place_of node t ≡ k) × (put node t ≡ t)
   put_there ok k h e = by (puts node t).either
     where
-      by : (put node t ≡ t) ⊎ ((put node t ≡ t ++ node ∷ []) × (place_of node t ≡ length t) × ((k : ℕ) → k < length t → get_or t k no_node ≢ node)) → (place_of node t ≡ k) × (put node t ≡ t)
+      by : (put node t ≡ t) ⊎ ((put node t ≡ t ++ node ∷ []) × (place_of node t ≡ length t) × ((k : ℕ) → k < length t → get_or t k no_node ≢ node))
+          → (place_of node t ≡ k) × (put node t ≡ t)
       by (inl stays) = (
         ok.distinct (place_of node t) k (subst (λ l. place_of node t < length l) stays (puts node t).inside) h
             (ap (λ l. get_or l (place_of node t) no_node) (sym stays) ∙ (puts node t).here ∙ sym e),

@@ -61,7 +61,8 @@ apart : (n : ℕ) → SameUpTo n → (s : ℕ) (l u : Tree) (k : ℕ) → IsRedu
 apart n same s l u k r d g free h = r.2 (same (s + 1) l u r.3 r.4 (omega arith) (omega arith) (children_same s l u k r g free h))
 
 fork_step : (n : ℕ) → SameUpTo n → (k : ℕ) (s : ℕ) (l u : Tree) (s' : ℕ) (l' u' : Tree) → IsReduced k (Fork s l u) → IsReduced k (Fork s' l' u')
-    → depth (Fork s l u) ≤ suc n → depth (Fork s' l' u') ≤ suc n → SameValue (Fork s l u) (Fork s' l' u') → (s < s') ⊎ ((s' < s) ⊎ (s ≡ s')) → Fork s l u ≡ Fork s' l' u'
+    → depth (Fork s l u) ≤ suc n → depth (Fork s' l' u') ≤ suc n → SameValue (Fork s l u) (Fork s' l' u') → (s < s') ⊎ ((s' < s) ⊎ (s ≡ s'))
+    → Fork s l u ≡ Fork s' l' u'
 fork_step n same k s l u s' l' u' r r' d d' h (inl lt) =
     let r2 : IsReduced s' (Fork s' l' u') = (omega arith, r'.1, r'.2, r'.3, r'.4) in
     absurd (apart n same s l u k r d (value (Fork s' l' u')) (λ at b. value-with_slot (Fork s' l' u') s' r2 s lt at b) h)
@@ -71,8 +72,10 @@ fork_step n same k s l u s' l' u' r r' d d' h (inr (inl lt)) =
 fork_step n same k s l u s' l' u' r r' d d' h (inr (inr e)) =
     let q : IsReduced k (Fork s l' u') = subst (λ x. IsReduced k (Fork x l' u')) (sym e) r' in
     let h2 : SameValue (Fork s l u) (Fork s l' u') = λ at. h at ∙ ap (λ x. value (Fork x l' u') at) (sym e) in
-    let lows = same (s + 1) l l' r.3 q.3 (omega arith) (omega arith) (λ at. sym (value-low s l u k r at) ∙ h2 (with_slot at s false) ∙ value-low s l' u' k q at) in
-    let highs = same (s + 1) u u' r.4 q.4 (omega arith) (omega arith) (λ at. sym (value-high s l u k r at) ∙ h2 (with_slot at s true) ∙ value-high s l' u' k q at) in
+    let lows = same (s + 1) l l' r.3 q.3 (omega arith) (omega arith)
+    (λ at. sym (value-low s l u k r at) ∙ h2 (with_slot at s false) ∙ value-low s l' u' k q at) in
+    let highs = same (s + 1) u u' r.4 q.4 (omega arith) (omega arith)
+    (λ at. sym (value-high s l u k r at) ∙ h2 (with_slot at s true) ∙ value-high s l' u' k q at) in
     (λ i. Fork (e i) (lows i) (highs i))
 
 compared : (a b : ℕ) → (a < b) ⊎ ((b < a) ⊎ (a ≡ b))

@@ -15,7 +15,8 @@ abbrev pub behind : {A : Type 0} → List A → Option (List A) → Option (List
 behind before None = None
 behind before (Some xs) = Some (before ++ xs)
 
-cell : (args : List Term) (head tail : Term) → two args ≡ Some (head, tail) → cell_items (map with_items args) ≡ option_map (λ items. head ∷ items) (list_items tail)
+cell : (args : List Term) (head tail : Term) → two args ≡ Some (head, tail)
+    → cell_items (map with_items args) ≡ option_map (λ items. head ∷ items) (list_items tail)
 cell [] head tail e = absurd cc
 cell (x ∷ []) head tail e = absurd cc
 cell (x ∷ y ∷ []) head tail e =
@@ -40,7 +41,8 @@ not_at_name : (b : Bool) (args : List Term) → cond b (two args) None ≡ None 
 not_at_name true args e = no_cell args e
 not_at_name false args e = refl
 
-two_arguments-Compound : (wanted name : List ℕ) (args : List Term) → two_arguments wanted (Compound name args) ≡ cond (pointwise nat_eq name wanted) (two args) None
+two_arguments-Compound : (wanted name : List ℕ) (args : List Term)
+    → two_arguments wanted (Compound name args) ≡ cond (pointwise nat_eq name wanted) (two args) None
 two_arguments-Compound wanted name args = search (rules, the_lemmas)
 
 is_nil-Compound : (name : List ℕ) (args : List Term) → is_nil (Compound name args) ≡ false
@@ -50,7 +52,8 @@ abbrev IsCell : Term → Type 0
 IsCell t = (head tail : Term) → two_arguments (codes ".") t ≡ Some (head, tail) → list_items t ≡ option_map (λ items. head ∷ items) (list_items tail)
 
 -- a cell's items are its head and those of its tail
-pub list_items-cell : (t head tail : Term) → two_arguments (codes ".") t ≡ Some (head, tail) → list_items t ≡ option_map (λ items. head ∷ items) (list_items tail)
+pub list_items-cell : (t head tail : Term) → two_arguments (codes ".") t ≡ Some (head, tail)
+    → list_items t ≡ option_map (λ items. head ∷ items) (list_items tail)
 list_items-cell = induction IsCell
     (λ v h t e. let no : two_arguments (codes ".") (Var v) ≡ None = search (rules, the_lemmas) in absurd cc)
     (λ n h t e. let no : two_arguments (codes ".") (Int n) ≡ None = search (rules, the_lemmas) in absurd cc)
@@ -87,7 +90,8 @@ pub no_more_cells : (before : List Term) (t whole : Term) → two_arguments (cod
     → behind before (list_items t) ≡ list_items whole → list_items whole ≡ behind before (cond (is_nil t) (Some []) None)
 no_more_cells before t whole e same = sym same ∙ ap (behind before) (list_items-end t e)
 
-map-now-push : (items : List (Bor Term)) (head : Bor Term) → map (λ (x : Bor Term). x.now) (items ++ head ∷ []) ≡ map (λ (x : Bor Term). x.now) items ++ head.now ∷ []
+map-now-push : (items : List (Bor Term)) (head : Bor Term)
+    → map (λ (x : Bor Term). x.now) (items ++ head ∷ []) ≡ map (λ (x : Bor Term). x.now) items ++ head.now ∷ []
 map-now-push [] head = refl
 map-now-push (x ∷ items) head = ap (λ ts. x.now ∷ ts) (map-now-push items head)
 

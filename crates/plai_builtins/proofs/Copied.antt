@@ -46,7 +46,8 @@ kept_at t v o (p ∷ ps) =
     by_test (occurs p.0 t)
     (λ k. rw k (ap (λ r. cond (nat_eq p.0 v) p.1 r) (kept_at t v o ps)))
     (λ k.
-    let apart : nat_eq p.0 v ≡ false = by_test (nat_eq p.0 v) (λ q. let there : occurs p.0 t ≡ true = ap (λ u. occurs u t) (eqb-true p.0 v q) ∙ o in absurd cc) (λ q. q) in
+    let apart : nat_eq p.0 v ≡ false = by_test (nat_eq p.0 v)
+    (λ q. let there : occurs p.0 t ≡ true = ap (λ u. occurs u t) (eqb-true p.0 v q) ∙ o in absurd cc) (λ q. q) in
     rw k (kept_at t v o ps ∙ sym (ap (λ b. cond b p.1 (bound_to ps v)) apart)))
 
 pub kept_off : (t : Term) (v : ℕ) → occurs v t ≡ false → (s : Bindings) → bound_to (kept_to t s) v ≡ Var v
@@ -54,7 +55,8 @@ kept_off t v o [] = refl
 kept_off t v o (p ∷ ps) =
     by_test (occurs p.0 t)
     (λ k.
-    let apart : nat_eq p.0 v ≡ false = by_test (nat_eq p.0 v) (λ q. let there : occurs v t ≡ true = ap (λ u. occurs u t) (sym (eqb-true p.0 v q)) ∙ k in absurd cc) (λ q. q) in
+    let apart : nat_eq p.0 v ≡ false = by_test (nat_eq p.0 v)
+    (λ q. let there : occurs v t ≡ true = ap (λ u. occurs u t) (sym (eqb-true p.0 v q)) ∙ k in absurd cc) (λ q. q) in
     rw k (ap (λ b. cond b p.1 (bound_to (kept_to t ps) v)) apart ∙ kept_off t v o ps))
     (λ k. rw k (kept_off t v o ps))
 

@@ -1,5 +1,31 @@
 -- Builtins that solve equations do what their actions allow.
-use Rattle.std.proofs.Common.{◌≡◌, ◌⊎◌, inl, inr, ℕ, zero, suc, ◌+◌, ◌≤◌, ℤ, true, false, Option, Some, None, List, [], ◌∷◌, refl, sym, ap, subst, ◌∙◌, rules, arith}
+use Rattle.std.proofs.Common.{
+  ◌≡◌,
+  ◌⊎◌,
+  inl,
+  inr,
+  ℕ,
+  zero,
+  suc,
+  ◌+◌,
+  ◌≤◌,
+  ℤ,
+  true,
+  false,
+  Option,
+  Some,
+  None,
+  List,
+  [],
+  ◌∷◌,
+  refl,
+  sym,
+  ap,
+  subst,
+  ◌∙◌,
+  rules,
+  arith,
+}
 use Rattle.plai_theory.specs.Words.{item}
 use Rattle.plai_base.specs.Mask.{mask_of}
 use Rattle.plai_terms.specs.Term.{is_ground, occurs}
@@ -106,7 +132,8 @@ argument_allowed n k t a x name args i s z int is there m =
     idle_action n (action.BindInt 1) (action.Havoc (mask_of 1 + mask_of 2) ∷ []) (k ∷ t ∷ a ∷ []) (bound_to s) (idle_local n (k ∷ []), (z, under_Var k ∙ int))
     (last_action n (action.Havoc (mask_of 1 + mask_of 2)) (k ∷ t ∷ a ∷ []) (bound_to s)
     (unifier_local n (t ∷ a ∷ []) (x ∷ []) (a ∷ []) s u
-    (one_of n x (t ∷ a ∷ []) (λ v o. inl (or_first (occurs v t) (occurs_in v (a ∷ [])) (ap (occurs v) is ∙ occurs-args v name args ∙ nth_there args i x there v o))))
+    (one_of n x (t ∷ a ∷ []) (λ v o. inl (or_first (occurs v t) (occurs_in v (a ∷ []))
+    (ap (occurs v) is ∙ occurs-args v name args ∙ nth_there args i x there v o))))
     (λ v o. inl (or_second (occurs v t) (occurs_in v (a ∷ [])) o))))
 
 -- `T =.. L`: one argument is unified with a term whose variables are the other's

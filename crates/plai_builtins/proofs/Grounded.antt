@@ -156,6 +156,7 @@ module _ (n : ℕ) (t x y c d : Term) (s : Bindings) (below : AreBelow n (t ∷ 
       (first_local, first_grounds) first_below
       (first_action n (action.BindInt 3) (action.Havoc (mask_of 0) ∷ []) (under first t ∷ under first x ∷ under first y ∷ []) others Var others
       (others_local, (z, others_give)) others_below
-      (last_action n (action.Havoc (mask_of 0)) (under others (under first t) ∷ under others (under first x) ∷ under others (under first y) ∷ []) Var (idle_local n _))
+      (last_action n (action.Havoc (mask_of 0)) (under others (under first t) ∷ under others (under first x) ∷ under others (under first y) ∷ []) Var
+      (idle_local n _))
       (λ v lt. sym (under_Var (others v))))
       (λ v lt. one_and_others v)

@@ -39,7 +39,8 @@ whole = induction IsWhole
     (λ v. search (rules, the_lemmas)) (λ n. search (rules, the_lemmas)) (λ a. search (rules, the_lemmas))
     (λ name args h. ap (λ p. p.0) (with_items-Compound name args) ∙ ap (Compound name) (all_whole args h))
 
-pub list_items-Compound : (name : List ℕ) (args : List Term) → list_items (Compound name args) ≡ cond (pointwise nat_eq name (codes ".")) (cell_items (map with_items args)) None
+pub list_items-Compound : (name : List ℕ) (args : List Term)
+    → list_items (Compound name args) ≡ cond (pointwise nat_eq name (codes ".")) (cell_items (map with_items args)) None
 list_items-Compound name args = ap (λ p. p.1) (with_items-Compound name args)
 
 -- the variables of the items are the list's
@@ -58,7 +59,8 @@ module _ (v : ℕ) where
         | inr p ↦ or_second (occurs v x) (occurs_in v (y ∷ [])) (or_first (occurs v y) false (below ys refl p))
       ]
 
-  cell_there : (args xs : List Term) → AllByRecursion ItemsThere args → cell_items (map with_items args) ≡ Some xs → occurs_in v xs ≡ true → occurs_in v args ≡ true
+  cell_there : (args xs : List Term) → AllByRecursion ItemsThere args → cell_items (map with_items args) ≡ Some xs → occurs_in v xs ≡ true
+      → occurs_in v args ≡ true
   cell_there [] xs h e o = absurd cc
   cell_there (x ∷ []) xs h e o = absurd cc
   cell_there (x ∷ y ∷ []) xs h e o = tail_there x y xs (list_items y) e h.1.0 o

@@ -14,7 +14,8 @@ new_variables_push first (suc i) =
     ap (new_variables first) more ∙ ap (λ ts. Var first ∷ ts) (new_variables_push (suc first) i ∙ ap (λ n. new_variables (suc first) i ++ Var n ∷ []) same)
 
 -- one more, made so
-pub one_more_variable : (first i : ℕ) (items after : List Term) → items ≡ new_variables first i → after ≡ items ++ Var (first + i) ∷ [] → after ≡ new_variables first (i + 1)
+pub one_more_variable : (first i : ℕ) (items after : List Term) → items ≡ new_variables first i → after ≡ items ++ Var (first + i) ∷ []
+    → after ≡ new_variables first (i + 1)
 one_more_variable first i items after e a = a ∙ ap (λ ts. ts ++ Var (first + i) ∷ []) e ∙ sym (new_variables_push first i)
 
 -- the first of terms below a number is below it

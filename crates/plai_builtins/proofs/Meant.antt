@@ -1,5 +1,37 @@
 -- Each meaning is a composition of what the builtin's actions allow.
-use Rattle.std.proofs.Common.{◌≡◌, ◌∙◌, inl, inr, ℕ, zero, suc, ◌+◌, ℤ, pos, Bool, true, false, ◌||◌, not, cond, nat_le, Option, Some, None, List, [], ◌∷◌, length, codes, refl, sym, ap, subst, rules, nat_eq}
+use Rattle.std.proofs.Common.{
+  ◌≡◌,
+  ◌∙◌,
+  inl,
+  inr,
+  ℕ,
+  zero,
+  suc,
+  ◌+◌,
+  ℤ,
+  pos,
+  Bool,
+  true,
+  false,
+  ◌||◌,
+  not,
+  cond,
+  nat_le,
+  Option,
+  Some,
+  None,
+  List,
+  [],
+  ◌∷◌,
+  length,
+  codes,
+  refl,
+  sym,
+  ap,
+  subst,
+  rules,
+  nat_eq,
+}
 use Rattle.std.specs.Cmp.Lexicographic.{pointwise}
 use Rattle.std.specs.Ordering.{is_eq}
 use Rattle.std.proofs.lemmas.Bool.Decides.{Decides-eqb}
@@ -30,9 +62,50 @@ use Rattle.plai_values.proofs.OrderLaws.{told_by_order}
 use Rattle.plai_builtins.specs.Actions.{table, actions_of}
 use Rattle.plai_builtins.specs.InTurn.{AllowedInTurn}
 use Rattle.plai_builtins.specs.Lists.{list_of, list_items}
-use Rattle.plai_builtins.specs.Meaning.{Demand, Never, Test, Solve, Apart, tested, refuted, Meets, is_variable, is_integer, is_atom, is_compound, number_up_to, new_variables, construct, functor_at, nth, arg_at, made_by, made_of, univ_at, compared, is_named, nullary, unary, binary, ternary, Means}
+use Rattle.plai_builtins.specs.Meaning.{
+  Demand,
+  Never,
+  Test,
+  Solve,
+  Apart,
+  tested,
+  refuted,
+  Meets,
+  is_variable,
+  is_integer,
+  is_atom,
+  is_compound,
+  number_up_to,
+  new_variables,
+  construct,
+  functor_at,
+  nth,
+  arg_at,
+  made_by,
+  made_of,
+  univ_at,
+  compared,
+  is_named,
+  nullary,
+  unary,
+  binary,
+  ternary,
+  Means,
+}
 use Rattle.plai_builtins.proofs.Copied.{copy_allowed}
-use Rattle.plai_builtins.proofs.Equated.{unified, one_of, int_closed, atom_closed, value_allowed, taken_apart, put_together, new_compound, nothing_new, argument_allowed, list_allowed}
+use Rattle.plai_builtins.proofs.Equated.{
+  unified,
+  one_of,
+  int_closed,
+  atom_closed,
+  value_allowed,
+  taken_apart,
+  put_together,
+  new_compound,
+  nothing_new,
+  argument_allowed,
+  list_allowed,
+}
 use Rattle.plai_builtins.proofs.Grounded.{IsClosed}
 use Rattle.plai_builtins.proofs.TermKinds.{variable_is, is_no_variable, integer_is, atomic_ground, compound_no_variable, number_is}
 use Rattle.plai_builtins.proofs.ListItems.{list_of_there, items_there}
@@ -96,7 +169,8 @@ module _ (n : ℕ) (s : Bindings) where
   functor_by t x y (Term-F.Atom a) below is m = taken_apart n t x y t s (pos 0) below (subst IsClosed (sym (is ∙ rolls-Atom a)) (atom_closed a)) m
   functor_by t x y (Term-F.Compound name args) below is m = taken_apart n t x y (Atom name) s (pos (length args)) below (atom_closed name) m
 
-  argument_at : (k t a : Term) (name : List ℕ) (args : List Term) (i : Option ℕ) (found : Option Term) → t ≡ Compound name args → number_up_to (length args) k ≡ i → nth args i ≡ found
+  argument_at : (k t a : Term) (name : List ℕ) (args : List Term) (i : Option ℕ) (found : Option Term) → t ≡ Compound name args
+      → number_up_to (length args) k ≡ i → nth args i ≡ found
       → Meets (given Never (λ x. Solve (x ∷ []) (a ∷ [])) found) (Some s)
       → Composed n (action.BindInt 1 ∷ action.Havoc (mask_of 1 + mask_of 2) ∷ []) (k ∷ t ∷ a ∷ []) s
   argument_at k t a name args i None is e there m = absurd cc
@@ -117,7 +191,8 @@ module _ (n : ℕ) (s : Bindings) where
   list_actions = action.Havoc (mask_of 0 + mask_of 1) ∷ []
 
   -- what is made of the items of the second argument is unified with the first
-  made_from : (t l y : Term) → ((v : ℕ) → occurs v y ≡ true → occurs v l ≡ true) → Meets (Solve (t ∷ []) (y ∷ [])) (Some s) → Composed n list_actions (t ∷ l ∷ []) s
+  made_from : (t l y : Term) → ((v : ℕ) → occurs v y ≡ true → occurs v l ≡ true) → Meets (Solve (t ∷ []) (y ∷ [])) (Some s)
+      → Composed n list_actions (t ∷ l ∷ []) s
   made_from t l y h m =
       list_allowed n t l t y s (one_of n t (t ∷ l ∷ []) (λ v o. inl (or_first (occurs v t) (occurs_in v (l ∷ [])) o)))
       (one_of n y (t ∷ l ∷ []) (λ v o. inl (or_second (occurs v t) (occurs_in v (l ∷ [])) (or_first (occurs v l) false (h v o))))) m
@@ -135,13 +210,15 @@ module _ (n : ℕ) (s : Bindings) where
       within true m = made_from t l (Compound a (y ∷ ys)) (λ v o. h v (or_second (occurs v x) (occurs_in v (y ∷ ys)) (sym (occurs-args v a (y ∷ ys)) ∙ o))) m
       within false m = absurd cc
 
-  made_items : (t l : Term) (items : Option (List Term)) → list_items l ≡ items → Meets (given Never (made_of t) items) (Some s) → Composed n list_actions (t ∷ l ∷ []) s
+  made_items : (t l : Term) (items : Option (List Term)) → list_items l ≡ items → Meets (given Never (made_of t) items) (Some s)
+      → Composed n list_actions (t ∷ l ∷ []) s
   made_items t l None e m = absurd cc
   made_items t l (Some []) e m = absurd cc
   made_items t l (Some (x ∷ xs)) e m = made_level t l x (out-Term x) xs (λ v o. items_there v l (x ∷ xs) e o) m
 
   -- the second argument is unified with a list of parts of the first
-  listed_parts : (t l : Term) (parts : List Term) → ((v : ℕ) → occurs_in v parts ≡ true → occurs v t ≡ true) → Meets (Solve (l ∷ []) (list_of parts ∷ [])) (Some s)
+  listed_parts : (t l : Term) (parts : List Term) → ((v : ℕ) → occurs_in v parts ≡ true → occurs v t ≡ true)
+      → Meets (Solve (l ∷ []) (list_of parts ∷ [])) (Some s)
       → Composed n list_actions (t ∷ l ∷ []) s
   listed_parts t l parts h m =
       list_allowed n t l l (list_of parts) s (λ v o. inl (or_second (occurs v t) (occurs_in v (l ∷ [])) o))
@@ -173,7 +250,8 @@ module _ (n : ℕ) (s : Bindings) where
   both_values c (Some a) None e = absurd cc
 
   -- a comparison of two values
-  compared_by : (l r : Term) (c : Comparison) → Meets (Test (compared c (value_of l) (value_of r))) (Some s) → Composed n (action.Ground 1 ∷ action.Ground 2 ∷ []) (l ∷ r ∷ []) s
+  compared_by : (l r : Term) (c : Comparison) → Meets (Test (compared c (value_of l) (value_of r))) (Some s)
+      → Composed n (action.Ground 1 ∷ action.Ground 2 ∷ []) (l ∷ r ∷ []) s
   compared_by l r c m =
       by_passing n (action.Ground 1 ∷ action.Ground 2 ∷ []) (l ∷ r ∷ []) (compared c (value_of l) (value_of r)) s
       (λ e.
@@ -200,7 +278,8 @@ module _ (n : ℕ) (args : List Term) (s : Bindings) (name : List ℕ) where
       (λ t. rw t (named_so text d t here))
       (λ t. rw t there)
 
-  pick_given : (text : List ℕ) (c : Comparison) (others : Option Comparison) (z : Demand) (f : Comparison → Demand) → KeptAt text (f c) → Kept (given z f others)
+  pick_given : (text : List ℕ) (c : Comparison) (others : Option Comparison) (z : Demand) (f : Comparison → Demand) → KeptAt text (f c)
+      → Kept (given z f others)
       → Kept (given z f (cond (is_named name text) (Some c) others))
   pick_given text c others z f here there =
       by_test (is_named name text)
@@ -242,9 +321,11 @@ unary_kept n t s name =
     (pick n (t ∷ []) s name (codes "ground") _ _
     (by_passing n (action.Ground 1 ∷ []) (t ∷ []) (is_ground t) s (λ e. to_ground e))
     (pick n (t ∷ []) s name (codes "integer") _ _
-    (by_passing n (action.BindInt 1 ∷ []) (t ∷ []) (is_integer (out-Term t)) s (λ e. idle_one n (action.BindInt 1) (t ∷ []) (idle_local n (t ∷ []), to_int (integer_is t e))))
+    (by_passing n (action.BindInt 1 ∷ []) (t ∷ []) (is_integer (out-Term t)) s
+    (λ e. idle_one n (action.BindInt 1) (t ∷ []) (idle_local n (t ∷ []), to_int (integer_is t e))))
     (pick n (t ∷ []) s name (codes "compound") _ _
-    (by_passing n (action.Nonvar 1 ∷ []) (t ∷ []) (is_compound (out-Term t)) s (λ e. idle_one n (action.Nonvar 1) (t ∷ []) (compound_no_variable t e, λ v. refl)))
+    (by_passing n (action.Nonvar 1 ∷ []) (t ∷ []) (is_compound (out-Term t)) s
+    (λ e. idle_one n (action.Nonvar 1) (t ∷ []) (compound_no_variable t e, λ v. refl)))
     (never n (actions_of name 1) (t ∷ []) s))))))))
   where
     off : (b : Bool) → not b ≡ true → b ≡ false

@@ -107,11 +107,16 @@ action_in arity [] h x i = absurd i
 action_in arity (y ∷ ys) h x (inl e) = subst (acts_within arity) e h.0
 action_in arity (y ∷ ys) h x (inr i) = action_in arity ys h.1 x i
 
-looked_up : (rows : List Acting) → AreSoundRows rows → (name : List ℕ) (arity : ℕ) → AllWithin arity (actions_in rows name arity) × (length (actions_in rows name arity) ≤ 3)
+looked_up : (rows : List Acting) → AreSoundRows rows → (name : List ℕ) (arity : ℕ)
+    → AllWithin arity (actions_in rows name arity) × (length (actions_in rows name arity) ≤ 3)
 looked_up [] h name arity = (tt, lit≤ tt)
 looked_up (a ∷ rows) h name arity =
     by_test (is_key name arity (a.name, a.arity))
-    (λ t. rw t (subst (λ n. AllWithin n a.actions) (eqb-true a.arity arity (both (pointwise nat_eq a.name name) (nat_eq a.arity arity) t).1) h.0.within, h.0.few))
+    (λ t. rw t (
+      subst (λ n. AllWithin n a.actions) (eqb-true a.arity arity (both (pointwise nat_eq a.name name) (nat_eq a.arity arity) t).1)
+          h.0.within,
+      h.0.few,
+    ))
     (λ t. rw t (looked_up rows h.1 name arity))
 
 pub actions_within : (name : List ℕ) (arity : ℕ) (x : Action) → IsIn x (actions_of name arity) → acts_within arity x
@@ -122,7 +127,8 @@ actions_few name arity = (looked_up table sound name arity).1
 
 -- small lists
 
-pub row_in-small : (rows : List Acting) (name : List ℕ) (arity : ℕ) → row_in (map (λ a. (a.name, a.arity, small a.actions)) rows) name arity ≡ small (actions_in rows name arity)
+pub row_in-small : (rows : List Acting) (name : List ℕ) (arity : ℕ)
+    → row_in (map (λ a. (a.name, a.arity, small a.actions)) rows) name arity ≡ small (actions_in rows name arity)
 row_in-small [] name arity = refl
 row_in-small (a ∷ rows) name arity = by_test (is_key name arity (a.name, a.arity)) (λ t. rw t refl) (λ t. rw t (row_in-small rows name arity))
 

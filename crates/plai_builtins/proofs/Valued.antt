@@ -20,7 +20,8 @@ of_two x y name (Some a) (Some b) z is also e = (a, b, is, also)
 of_two x y name None p z is also e = absurd cc
 of_two x y name (Some a) None z is also e = absurd cc
 
-solid_args : (name : List ℕ) (args : List Term) (z : ℤ) → AllByRecursion IsSolid args → functor_value name (map value_of args) ≡ Some z → list_all (λ b. b) (map is_ground args) ≡ true
+solid_args : (name : List ℕ) (args : List Term) (z : ℤ) → AllByRecursion IsSolid args → functor_value name (map value_of args) ≡ Some z
+    → list_all (λ b. b) (map is_ground args) ≡ true
 solid_args name [] z h e = absurd cc
 solid_args name (x ∷ []) z h e =
     let (a, is) = of_one x name (value_of x) z refl e in

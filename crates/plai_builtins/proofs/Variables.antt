@@ -1,5 +1,40 @@
 -- The variables of a term, by its subterms in preorder.
-use Rattle.std.proofs.Common.{◌≡◌, inl, inr, ℕ, suc, ◌+◌, ◌<◌, ◌≤◌, Bool, true, false, ◌||◌, not, cond, nat_eq, Some, List, [], ◌∷◌, ◌++◌, map, filter, flat_map, length, take, get_or, refl, sym, ap, subst, ◌∙◌, rules, arith, Bor}
+use Rattle.std.proofs.Common.{
+  ◌≡◌,
+  inl,
+  inr,
+  ℕ,
+  suc,
+  ◌+◌,
+  ◌<◌,
+  ◌≤◌,
+  Bool,
+  true,
+  false,
+  ◌||◌,
+  not,
+  cond,
+  nat_eq,
+  Some,
+  List,
+  [],
+  ◌∷◌,
+  ◌++◌,
+  map,
+  filter,
+  flat_map,
+  length,
+  take,
+  get_or,
+  refl,
+  sym,
+  ap,
+  subst,
+  ◌∙◌,
+  rules,
+  arith,
+  Bor,
+}
 use Rattle.std.specs.List.{list_any, AllByRecursion, IsDistinct}
 use Rattle.std.proofs.lemmas.Grind.{flat_map-append}
 use Rattle.std.proofs.lemmas.List.{append-nil, map-append, take_more, length-take-le}
@@ -39,7 +74,8 @@ all_owned [] h = refl
 all_owned (a ∷ args) h =
     let p = h.0 in
     let q = all_owned args h.1 in
-    let r : flat_map own (preorder a ++ flat_map preorder args) ≡ flat_map own (preorder a) ++ flat_map own (flat_map preorder args) = flat_map-append own (preorder a) (flat_map preorder args) in
+    let r : flat_map own (preorder a ++ flat_map preorder args) ≡ flat_map own (preorder a) ++ flat_map own (flat_map preorder args) =
+    flat_map-append own (preorder a) (flat_map preorder args) in
     ap (λ vs. vs ++ flat_map (λ part. part) (map occurrences args)) p ∙ ap (λ vs. flat_map own (preorder a) ++ vs) q ∙ sym r
 
 -- the variables as they stand are those of the subterms in preorder

@@ -1,5 +1,46 @@
 -- The goals of a body, the literals that are put behind others, and the bounds on a clause's parts.
-use Rattle.std.proofs.Common.{◌≡◌, ◌∙◌, ℕ, ◌+◌, ◌<◌, ◌≤◌, ℤ, Bool, true, false, ◌||◌, cond, max, fold, map, zero, suc, Some, None, Result, Ok, Err, List, [], ◌∷◌, ◌++◌, length, take, drop, get_or, append-nil, append_assoc, drop-cons, refl, sym, ap, subst, arith, rules, if◌then◌else◌}
+use Rattle.std.proofs.Common.{
+  ◌≡◌,
+  ◌∙◌,
+  ℕ,
+  ◌+◌,
+  ◌<◌,
+  ◌≤◌,
+  ℤ,
+  Bool,
+  true,
+  false,
+  ◌||◌,
+  cond,
+  max,
+  fold,
+  map,
+  zero,
+  suc,
+  Some,
+  None,
+  Result,
+  Ok,
+  Err,
+  List,
+  [],
+  ◌∷◌,
+  ◌++◌,
+  length,
+  take,
+  drop,
+  get_or,
+  append-nil,
+  append_assoc,
+  drop-cons,
+  refl,
+  sym,
+  ap,
+  subst,
+  arith,
+  rules,
+  if◌then◌else◌,
+}
 use Rattle.std.proofs.lemmas.List.{length-map, take_more, take_all, take-append-drop}
 use Rattle.std.proofs.lemmas.Grind.{flat_map-append}
 use Rattle.std.proofs.lemmas.Bool.{ltb-false}
@@ -18,7 +59,22 @@ use Rattle.plai_clauses.specs.declared.cause.ClauseFail.TheVariants.{Memory, Ref
 use Rattle.plai_terms.specs.Readable.{is_wide}
 use Rattle.plai_clauses.specs.Builtins.{is_refused_key}
 use Rattle.plai_clauses.specs.Bodies.{behind, Puts}
-use Rattle.plai_clauses.specs.ClauseOf.{is_conjunction, with_goals, goals_step, goals_of, cause_of_key, unless, target_of, literal_in, literal_of, in_front, body_of, two, two_arguments, widest}
+use Rattle.plai_clauses.specs.ClauseOf.{
+  is_conjunction,
+  with_goals,
+  goals_step,
+  goals_of,
+  cause_of_key,
+  unless,
+  target_of,
+  literal_in,
+  literal_of,
+  in_front,
+  body_of,
+  two,
+  two_arguments,
+  widest,
+}
 
 -- the goals of a term
 
@@ -49,7 +105,8 @@ goals_of-Compound : (name : List ℕ) (args : List Term)
     → goals_of (Compound name args) ≡ (if is_conjunction name (length args) then flat_map goals_of args else Compound name args ∷ [])
 goals_of-Compound name args =
     ap (λ p. p.1) (with_goals-Compound name args)
-    ∙ ap (λ n. if is_conjunction name n then flat_map (λ p. p.1) (map with_goals args) else Compound name (map (λ p. p.0) (map with_goals args)) ∷ []) (length-map args with_goals)
+    ∙ ap (λ n. if is_conjunction name n then flat_map (λ p. p.1) (map with_goals args) else Compound name (map (λ p. p.0) (map with_goals args)) ∷ [])
+    (length-map args with_goals)
     ∙ ap (λ gs. if is_conjunction name (length args) then gs else Compound name (map (λ p. p.0) (map with_goals args)) ∷ []) (fused args)
     ∙ ap (λ ts. if is_conjunction name (length args) then flat_map goals_of args else Compound name ts ∷ []) (parts args)
 
@@ -62,7 +119,8 @@ goals_of-single name args e = goals_of-Compound name args ∙ ap (λ b. if b the
 pub single_at : (t : Term) (name : List ℕ) (args : List Term) → t ≡ Compound name args → is_conjunction name (length args) ≡ false → goals_of t ≡ t ∷ []
 single_at t name args e f = ap goals_of e ∙ goals_of-single name args f ∙ ap (λ x. x ∷ []) (sym e)
 
-pub joined_at : (t : Term) (name : List ℕ) (args parts : List Term) → t ≡ Compound name args → parts ≡ args → is_conjunction name (length args) ≡ true → goals_of t ≡ flat_map goals_of parts
+pub joined_at : (t : Term) (name : List ℕ) (args parts : List Term) → t ≡ Compound name args → parts ≡ args → is_conjunction name (length args) ≡ true
+    → goals_of t ≡ flat_map goals_of parts
 joined_at t name args parts e s f = ap goals_of e ∙ goals_of-joined name args f ∙ ap (flat_map goals_of) (sym s)
 
 pub goals_of-Var : (v : ℕ) → goals_of (Var v) ≡ Var v ∷ []
@@ -76,7 +134,8 @@ goals_of-Atom a = search (rules, the_lemmas)
 
 -- parts of a term in which no compound has too many arguments
 
-is_wide-Compound : (name : List ℕ) (args : List Term) → is_wide (Compound name args) ≡ (nat_lt 255 (length (map is_wide args)) || list_any (λ b. b) (map is_wide args))
+is_wide-Compound : (name : List ℕ) (args : List Term)
+    → is_wide (Compound name args) ≡ (nat_lt 255 (length (map is_wide args)) || list_any (λ b. b) (map is_wide args))
 is_wide-Compound name args = search (rules, the_lemmas)
 
 neither : (p q : Bool) → (p || q) ≡ false → (p ≡ false) × (q ≡ false)
@@ -91,13 +150,15 @@ none_wide (a ∷ args) (suc i) d e h = none_wide args i d (neither (is_wide a) (
 any_wide : (name : List ℕ) (args : List Term) → is_wide (Compound name args) ≡ false → list_any (λ b. b) (map is_wide args) ≡ false
 any_wide name args e = (neither (nat_lt 255 (length (map is_wide args))) (list_any (λ b. b) (map is_wide args)) (sym (is_wide-Compound name args) ∙ e)).1
 
-pub narrow_part : (name : List ℕ) (args : List Term) (i : ℕ) (d : Term) → is_wide (Compound name args) ≡ false → i < length args → is_wide (get_or args i d) ≡ false
+pub narrow_part : (name : List ℕ) (args : List Term) (i : ℕ) (d : Term) → is_wide (Compound name args) ≡ false → i < length args
+    → is_wide (get_or args i d) ≡ false
 narrow_part name args i d e h = none_wide args i d (any_wide name args e) h
 
 abbrev AreNarrow : List ℕ → Term → Type 0
 AreNarrow wanted t = (h b : Term) → is_wide t ≡ false → two_arguments wanted t ≡ Some (h, b) → (is_wide h ≡ false) × (is_wide b ≡ false)
 
-narrow_pair : (args : List Term) (h b : Term) → list_any (λ b. b) (map is_wide args) ≡ false → two args ≡ Some (h, b) → (is_wide h ≡ false) × (is_wide b ≡ false)
+narrow_pair : (args : List Term) (h b : Term) → list_any (λ b. b) (map is_wide args) ≡ false → two args ≡ Some (h, b)
+    → (is_wide h ≡ false) × (is_wide b ≡ false)
 narrow_pair [] h b e f = cc
 narrow_pair (x ∷ []) h b e f = cc
 narrow_pair (x ∷ y ∷ []) h b e f =
@@ -107,7 +168,8 @@ narrow_pair (x ∷ y ∷ []) h b e f =
     (sym (ap (λ (z : Term × Term). is_wide z.0) r) ∙ p.0, sym (ap (λ (z : Term × Term). is_wide z.1) r) ∙ q.0)
 narrow_pair (x ∷ y ∷ z ∷ args) h b e f = cc
 
-pub two_arguments-Compound : (wanted name : List ℕ) (args : List Term) → two_arguments wanted (Compound name args) ≡ cond (pointwise nat_eq name wanted) (two args) None
+pub two_arguments-Compound : (wanted name : List ℕ) (args : List Term)
+    → two_arguments wanted (Compound name args) ≡ cond (pointwise nat_eq name wanted) (two args) None
 two_arguments-Compound wanted name args = search (rules, the_lemmas)
 
 pub named_pair : (b : Bool) (args : List Term) (x y : Term) → cond b (two args) None ≡ Some (x, y) → two args ≡ Some (x, y)
@@ -128,7 +190,8 @@ after : Result (List Literal) ClauseCause → Result (List Literal) ClauseCause 
 after (Err c) r = Err c
 after (Ok ls) r = behind ls r
 
-chain : (before mid later : List Literal) (a b : Result (List Literal) ClauseCause) → behind before a ≡ Ok mid → behind mid b ≡ Ok later → behind before (after a b) ≡ Ok later
+chain : (before mid later : List Literal) (a b : Result (List Literal) ClauseCause) → behind before a ≡ Ok mid → behind mid b ≡ Ok later
+    → behind before (after a b) ≡ Ok later
 unfolding after
 chain before mid later (Err c) b e f = cc
 chain before mid later (Ok ls) (Err c) e f = cc
@@ -182,7 +245,8 @@ module _ (m : List ℕ) (is : List (List ℕ × ℕ × List ℕ)) where
   body_of-append [] ys = after-nil (body_of m is ys)
   body_of-append (x ∷ xs) ys = ap (in_front (literal_of m is x)) (body_of-append xs ys) ∙ shift (literal_of m is x) (body_of m is xs) (body_of m is ys)
 
-  goals_more : (args : List Term) (i : ℕ) (part : Term) → i < length args → part ≡ get_or args i part → flat_map goals_of (take (i + 1) args) ≡ flat_map goals_of (take i args) ++ goals_of part
+  goals_more : (args : List Term) (i : ℕ) (part : Term) → i < length args → part ≡ get_or args i part
+      → flat_map goals_of (take (i + 1) args) ≡ flat_map goals_of (take i args) ++ goals_of part
   goals_more args i part h e =
       ap (flat_map goals_of) (take_more args i part h) ∙ flat_map-append goals_of (take i args) (get_or args i part ∷ [])
       ∙ ap (λ gs. flat_map goals_of (take i args) ++ gs) (append-nil (goals_of (get_or args i part)) ∙ ap goals_of (sym e))
@@ -203,7 +267,8 @@ module _ (m : List ℕ) (is : List (List ℕ × ℕ × List ℕ)) where
       ap (λ ts. body_of m is (flat_map goals_of ts)) (sym (take-append-drop i args))
       ∙ ap (body_of m is) (flat_map-append goals_of (take i args) (drop i args))
       ∙ body_of-append (flat_map goals_of (take i args)) (flat_map goals_of (drop i args))
-      ∙ ap (λ ts. after (body_of m is (flat_map goals_of (take i args))) (body_of m is (flat_map goals_of ts))) (drop-cons args i part h ∙ ap (λ x. x ∷ drop (suc i) args) (sym e))
+      ∙ ap (λ ts. after (body_of m is (flat_map goals_of (take i args))) (body_of m is (flat_map goals_of ts)))
+      (drop-cons args i part h ∙ ap (λ x. x ∷ drop (suc i) args) (sym e))
       ∙ ap (after (body_of m is (flat_map goals_of (take i args)))) (body_of-append (goals_of part) (flat_map goals_of (drop (suc i) args)))
       ∙ ap (λ x. after (body_of m is (flat_map goals_of (take i args))) (after x r)) b
       ∙ stop before mid c (body_of m is (flat_map goals_of (take i args))) r a
@@ -226,7 +291,8 @@ module _ (m : List ℕ) (is : List (List ℕ × ℕ × List ℕ)) where
       let p = unless_ok (is_refused_key a 0) a 0 (record { name = a; args = []; target = target_of m is a 0 }) k e in
       subst (λ (l : Literal). length l.args ≤ 16) p.1 p.0
   few_in (Term-F.Compound name args) k e =
-      let p = unless_ok (is_refused_key name (length args)) name (length args) (record { name = name; args = args; target = target_of m is name (length args) }) k e in
+      let p = unless_ok (is_refused_key name (length args)) name (length args)
+      (record { name = name; args = args; target = target_of m is name (length args) }) k e in
       subst (λ (l : Literal). length l.args ≤ 16) p.1 p.0
 
   bounded : (ls : List Literal) (a : ℕ) → a ≤ 16 → AllByRecursion (λ l. length l.args ≤ 16) ls → fold max a (map (λ l. length l.args) ls) ≤ 16
@@ -235,7 +301,8 @@ module _ (m : List ℕ) (is : List (List ℕ × ℕ × List ℕ)) where
 
   all_few : (goals : List Term) (body : List Literal) → body_of m is goals ≡ Ok body → AllByRecursion (λ k. length k.args ≤ 16) body
   all_few [] body e = let b : [] ≡ body = cc in subst (λ (ks : List Literal). AllByRecursion (λ k. length k.args ≤ 16) ks) b tt
-  all_few (goal ∷ goals) body e = in_front_all (λ k. length k.args ≤ 16) (literal_of m is goal) (body_of m is goals) body (few_in (out-Term goal)) (all_few goals) e
+  all_few (goal ∷ goals) body e = in_front_all (λ k. length k.args ≤ 16) (literal_of m is goal) (body_of m is goals) body (few_in (out-Term goal))
+      (all_few goals) e
 
   -- Theorem: no literal of a body has more than 16 arguments.
   pub widest_few : (goals : List Term) (body : List Literal) → behind [] (body_of m is goals) ≡ Ok body → widest body ≤ 16

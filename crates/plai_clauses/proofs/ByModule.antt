@@ -71,7 +71,8 @@ module _ {A : Type 0} (home : A → List ℕ) where
   -- an item stays behind all of its module and those before
   pub pairs_insert : (y : A) (xs : List A) → AllPairs IsBefore xs → AllPairs IsBefore (insert xs (place_behind (home y) (map home xs)) y)
   pairs_insert y [] all = AllPairs-cons IsBefore y [] (All-nil (IsBefore y)) pairs_nil
-  pairs_insert y (x ∷ xs) all = by_test (is_lt (slice_cmp nat_cmp (home y) (home x))) (λ t. rw t (first t)) (λ t. rw t (later t (pairs_insert y xs (pairs_tail x xs all))))
+  pairs_insert y (x ∷ xs) all = by_test (is_lt (slice_cmp nat_cmp (home y) (home x))) (λ t. rw t (first t))
+      (λ t. rw t (later t (pairs_insert y xs (pairs_tail x xs all))))
     where
       first : is_lt (slice_cmp nat_cmp (home y) (home x)) ≡ true → AllPairs IsBefore (y ∷ x ∷ xs)
       first t =

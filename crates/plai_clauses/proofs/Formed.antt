@@ -1,5 +1,40 @@
 -- A clause that a term says is well formed: its terms are parts of the term, and its bounds were tested.
-use Rattle.std.proofs.Common.{◌≡◌, ◌∙◌, ℕ, ◌+◌, ◌≤◌, Bool, true, false, ◌&&◌, ◌||◌, max, fold, map, Option, Some, None, Result, Ok, Err, List, [], ◌∷◌, ◌++◌, length, refl, sym, ap, subst, inl, inr, arith, rules, if◌then◌else◌, codes}
+use Rattle.std.proofs.Common.{
+  ◌≡◌,
+  ◌∙◌,
+  ℕ,
+  ◌+◌,
+  ◌≤◌,
+  Bool,
+  true,
+  false,
+  ◌&&◌,
+  ◌||◌,
+  max,
+  fold,
+  map,
+  Option,
+  Some,
+  None,
+  Result,
+  Ok,
+  Err,
+  List,
+  [],
+  ◌∷◌,
+  ◌++◌,
+  length,
+  refl,
+  sym,
+  ap,
+  subst,
+  inl,
+  inr,
+  arith,
+  rules,
+  if◌then◌else◌,
+  codes,
+}
 use Rattle.std.proofs.lemmas.Bool.{ltb-false, and_parts, and_from}
 use Rattle.std.specs.Prelude.{flat_map, nat_lt, nat_eq, IfOk}
 use Rattle.std.specs.List.{list_all, AllByRecursion}
@@ -19,13 +54,43 @@ use Rattle.plai_clauses.specs.declared.cause.ClauseCause.TheVariants.{NotAClause
 use Rattle.plai_clauses.specs.declared.cause.ClauseFail.{ClauseFail}
 use Rattle.plai_terms.specs.Readable.{IsReadable}
 use Rattle.plai_clauses.specs.Builtins.{is_builtin_key, is_refused_key}
-use Rattle.plai_clauses.specs.ClauseOf.{is_conjunction, goals_of, spoken_of, target_of, head_at, head_of, literal_at, literal_of, body_of, two, two_arguments, widest, within_slots, clause_with, clause_from, clause_in, clause_of, Answers}
+use Rattle.plai_clauses.specs.ClauseOf.{
+  is_conjunction,
+  goals_of,
+  spoken_of,
+  target_of,
+  head_at,
+  head_of,
+  literal_at,
+  literal_of,
+  body_of,
+  two,
+  two_arguments,
+  widest,
+  within_slots,
+  clause_with,
+  clause_from,
+  clause_in,
+  clause_of,
+  Answers,
+}
 use Rattle.plai_clauses.specs.WellFormed.{IsTargetOf, IsWellFormedClause}
-use Rattle.plai_clauses.proofs.Bodies.{unless_ok, in_front_all, two_arguments-Compound, named_pair, goals_of-Var, goals_of-Int, goals_of-Atom, goals_of-joined, goals_of-single}
+use Rattle.plai_clauses.proofs.Bodies.{
+  unless_ok,
+  in_front_all,
+  two_arguments-Compound,
+  named_pair,
+  goals_of-Var,
+  goals_of-Int,
+  goals_of-Atom,
+  goals_of-joined,
+  goals_of-single,
+}
 
 -- variables of parts of a term
 
-below-Compound : (limit : ℕ) (name : List ℕ) (args : List Term) → has_variables_below limit (Compound name args) ≡ list_all (λ b. b) (map (has_variables_below limit) args)
+below-Compound : (limit : ℕ) (name : List ℕ) (args : List Term)
+    → has_variables_below limit (Compound name args) ≡ list_all (λ b. b) (map (has_variables_below limit) args)
 below-Compound limit name args = search (rules, the_lemmas)
 
 all_below-map : (limit : ℕ) (args : List Term) → list_all (λ b. b) (map (has_variables_below limit) args) ≡ all_below limit args
@@ -41,7 +106,8 @@ all_below-append limit (x ∷ xs) ys e f =
     let p = and_parts (has_variables_below limit x) (all_below limit xs) e in
     and_from (has_variables_below limit x) (all_below limit (xs ++ ys)) p.0 (all_below-append limit xs ys p.1 f)
 
-pair_below : (limit : ℕ) (args : List Term) (h b : Term) → all_below limit args ≡ true → two args ≡ Some (h, b) → (has_variables_below limit h ≡ true) × (has_variables_below limit b ≡ true)
+pair_below : (limit : ℕ) (args : List Term) (h b : Term) → all_below limit args ≡ true → two args ≡ Some (h, b)
+    → (has_variables_below limit h ≡ true) × (has_variables_below limit b ≡ true)
 pair_below limit [] h b e f = cc
 pair_below limit (x ∷ []) h b e f = cc
 pair_below limit (x ∷ y ∷ []) h b e f =
@@ -52,7 +118,8 @@ pair_below limit (x ∷ y ∷ []) h b e f =
 pair_below limit (x ∷ y ∷ z ∷ args) h b e f = cc
 
 abbrev HasPartsBelow : ℕ → List ℕ → Term → Type 0
-HasPartsBelow limit wanted t = (h b : Term) → has_variables_below limit t ≡ true → two_arguments wanted t ≡ Some (h, b) → (has_variables_below limit h ≡ true) × (has_variables_below limit b ≡ true)
+HasPartsBelow limit wanted t = (h b : Term) → has_variables_below limit t ≡ true → two_arguments wanted t ≡ Some (h, b)
+    → (has_variables_below limit h ≡ true) × (has_variables_below limit b ≡ true)
 
 parts_below : (limit : ℕ) (wanted : List ℕ) (t : Term) → HasPartsBelow limit wanted t
 parts_below limit wanted = induction (HasPartsBelow limit wanted)
@@ -70,7 +137,8 @@ HasGoalsBelow limit t = has_variables_below limit t ≡ true → all_below limit
 alone_below : (limit : ℕ) (t : Term) → goals_of t ≡ t ∷ [] → HasGoalsBelow limit t
 alone_below limit t g e = ap (all_below limit) g ∙ and_from (has_variables_below limit t) true e refl
 
-joined_below : (limit : ℕ) (args : List Term) → AllByRecursion (HasGoalsBelow limit) args → all_below limit args ≡ true → all_below limit (flat_map goals_of args) ≡ true
+joined_below : (limit : ℕ) (args : List Term) → AllByRecursion (HasGoalsBelow limit) args → all_below limit args ≡ true
+    → all_below limit (flat_map goals_of args) ≡ true
 joined_below limit [] all e = refl
 joined_below limit (a ∷ args) all e =
     let p = and_parts (has_variables_below limit a) (all_below limit args) e in
@@ -90,7 +158,8 @@ goals_below limit = induction (HasGoalsBelow limit)
 abbrev IsHeadWithin : ℕ → List ℕ × List Term → Type 0
 IsHeadWithin limit head = (length head.1 ≤ 16) × (all_below limit head.1 ≡ true)
 
-head_at_within : (limit : ℕ) (name : List ℕ) (args : List Term) (head : List ℕ × List Term) → all_below limit args ≡ true → head_at name args ≡ Ok head → IsHeadWithin limit head
+head_at_within : (limit : ℕ) (name : List ℕ) (args : List Term) (head : List ℕ × List Term) → all_below limit args ≡ true → head_at name args ≡ Ok head
+    → IsHeadWithin limit head
 head_at_within limit name args head b e =
     let p = unless_ok (is_builtin_key name (length args) || is_refused_key name (length args)) name (length args) (name, args) head e in
     subst (λ (h : List ℕ × List Term). IsHeadWithin limit h) p.1 (p.0, b)
@@ -152,9 +221,11 @@ module _ (m : List ℕ) (is : List (List ℕ × ℕ × List ℕ)) where
   abbrev IsLiteralWithin : ℕ → Literal → Type 0
   IsLiteralWithin limit l = (length l.args ≤ 16) × (all_below limit l.args ≡ true) × IsTargetOf l.name (length l.args) l.target
 
-  literal_at_within : (limit : ℕ) (name : List ℕ) (args : List Term) (l : Literal) → all_below limit args ≡ true → literal_at m is name args ≡ Ok l → IsLiteralWithin limit l
+  literal_at_within : (limit : ℕ) (name : List ℕ) (args : List Term) (l : Literal) → all_below limit args ≡ true → literal_at m is name args ≡ Ok l
+      → IsLiteralWithin limit l
   literal_at_within limit name args l b e =
-      let p = unless_ok (is_refused_key name (length args)) name (length args) (record { name = name; args = args; target = target_of m is name (length args) }) l e in
+      let p = unless_ok (is_refused_key name (length args)) name (length args)
+      (record { name = name; args = args; target = target_of m is name (length args) }) l e in
       subst (λ (k : Literal). IsLiteralWithin limit k) p.1 (p.0, b, target_is name (length args))
 
   abbrev HasLiteralWithin : ℕ → Term → Type 0
@@ -169,7 +240,8 @@ module _ (m : List ℕ) (is : List (List ℕ × ℕ × List ℕ)) where
       let so : literal_of m is (Compound name args) ≡ literal_at m is name args = search (rules, the_lemmas) in
       literal_at_within limit name args l (arguments_below limit name args b) (sym so ∙ e))
 
-  body_within : (limit : ℕ) (goals : List Term) (body : List Literal) → all_below limit goals ≡ true → body_of m is goals ≡ Ok body → AllByRecursion (IsLiteralWithin limit) body
+  body_within : (limit : ℕ) (goals : List Term) (body : List Literal) → all_below limit goals ≡ true → body_of m is goals ≡ Ok body
+      → AllByRecursion (IsLiteralWithin limit) body
   body_within limit [] body b e = let f : [] ≡ body = cc in subst (λ (ks : List Literal). AllByRecursion (IsLiteralWithin limit) ks) f tt
   body_within limit (goal ∷ goals) body b e =
       let p = and_parts (has_variables_below limit goal) (all_below limit goals) b in
@@ -217,6 +289,7 @@ module _ (m : List ℕ) (is : List (List ℕ × ℕ × List ℕ)) where
   clause_of_formed read clause r e = formed_in read (two_arguments (codes ":-") read.term) (two_arguments (codes "-->") read.term) clause r refl e
 
   -- and so is the clause of a call that answers by the definition
-  pub answer_formed : (read : ReadTerm) (result : Result Clause ClauseFail) → IsReadable read → Answers (clause_of m is read) result → IfOk result IsWellFormedClause
+  pub answer_formed : (read : ReadTerm) (result : Result Clause ClauseFail) → IsReadable read → Answers (clause_of m is read) result
+      → IfOk result IsWellFormedClause
   answer_formed read (Ok clause) r a = clause_of_formed read clause r a
   answer_formed read (Err fail) r a = tt

@@ -7,10 +7,37 @@ use Rattle.plai_clauses.specs.declared.entry.Entry.{Entry}
 use Rattle.plai_clauses.specs.declared.check.Check.{Check}
 use Rattle.plai_clauses.specs.declared.definition.Definition.{Definition}
 use Rattle.plai_clauses.specs.declared.modules.Module.{Module}
-use Rattle.plai_clauses.specs.Program.{ProgramView, empty, pred_of, with_clause, changed_in, place_behind, place_of, homes_of_entries, homes_of_checks, with_module, with_clause_of, without_clause, without_clauses, with_entry, with_check, without_entry, without_check}
+use Rattle.plai_clauses.specs.Program.{
+  ProgramView,
+  empty,
+  pred_of,
+  with_clause,
+  changed_in,
+  place_behind,
+  place_of,
+  homes_of_entries,
+  homes_of_checks,
+  with_module,
+  with_clause_of,
+  without_clause,
+  without_clauses,
+  with_entry,
+  with_check,
+  without_entry,
+  without_check,
+}
 use Rattle.plai_clauses.specs.WellFormed.{IsWellFormedClause, IsWellFormedEntry, IsWellFormedCheck, IsWellFormed}
 use Rattle.plai_clauses.specs.Invariant.{IsProgram}
-use Rattle.plai_clauses.proofs.Kept.{keeps_with_module, keeps_with_clause, keeps_without_clause, keeps_without_clauses, keeps_with_entry, keeps_without_entry, keeps_with_check, keeps_without_check}
+use Rattle.plai_clauses.proofs.Kept.{
+  keeps_with_module,
+  keeps_with_clause,
+  keeps_without_clause,
+  keeps_without_clauses,
+  keeps_with_entry,
+  keeps_without_entry,
+  keeps_with_check,
+  keeps_without_check,
+}
 use Rattle.plai_clauses.proofs.ByModule.{empty_by_module, by_module_with_entry, by_module_with_check, by_module_without_entry, by_module_without_check}
 
 empty_well_formed : IsWellFormed empty
@@ -83,17 +110,20 @@ module _ (ms : List Module) (ds : List Definition) (es : List Entry) (cs : List 
   pub more_definitions : (new : List Definition) (name : List ℕ) (clause : Clause) → IsWellFormedClause clause
       → new ≡ with_clause ds (pred_of name clause) clause → IsProgram (record { modules = ms; definitions = new; entries = es; checks = cs })
   more_definitions new name clause h e =
-      subst (λ (xs : List Definition). IsProgram (record { modules = ms; definitions = xs; entries = es; checks = cs })) (sym e) (program_with_clause g good name clause h)
+      subst (λ (xs : List Definition). IsProgram (record { modules = ms; definitions = xs; entries = es; checks = cs })) (sym e)
+      (program_with_clause g good name clause h)
 
   pub shorter_definitions : (new : List Definition) (pred : PredKey) (number : ℕ) → new ≡ changed_in (λ clauses. remove clauses (number - 1)) ds pred
       → IsProgram (record { modules = ms; definitions = new; entries = es; checks = cs })
   shorter_definitions new pred number e =
-      subst (λ (xs : List Definition). IsProgram (record { modules = ms; definitions = xs; entries = es; checks = cs })) (sym e) (program_without_clause g good pred number)
+      subst (λ (xs : List Definition). IsProgram (record { modules = ms; definitions = xs; entries = es; checks = cs })) (sym e)
+      (program_without_clause g good pred number)
 
   pub emptied_definitions : (new : List Definition) (pred : PredKey) → new ≡ changed_in (λ _. []) ds pred
       → IsProgram (record { modules = ms; definitions = new; entries = es; checks = cs })
   emptied_definitions new pred e =
-      subst (λ (xs : List Definition). IsProgram (record { modules = ms; definitions = xs; entries = es; checks = cs })) (sym e) (program_without_clauses g good pred)
+      subst (λ (xs : List Definition). IsProgram (record { modules = ms; definitions = xs; entries = es; checks = cs })) (sym e)
+      (program_without_clauses g good pred)
 
   pub more_entries : (new : List Entry) (entry : Entry) → IsWellFormedEntry entry → new ≡ insert es (place_behind entry.module (homes_of_entries es)) entry
       → IsProgram (record { modules = ms; definitions = ds; entries = new; checks = cs })
@@ -108,9 +138,11 @@ module _ (ms : List Module) (ds : List Definition) (es : List Entry) (cs : List 
   pub fewer_entries : (new : List Entry) (name : List ℕ) (number : ℕ) → new ≡ remove es (place_of name number (homes_of_entries es))
       → IsProgram (record { modules = ms; definitions = ds; entries = new; checks = cs })
   fewer_entries new name number e =
-      subst (λ (xs : List Entry). IsProgram (record { modules = ms; definitions = ds; entries = xs; checks = cs })) (sym e) (program_without_entry g good name number)
+      subst (λ (xs : List Entry). IsProgram (record { modules = ms; definitions = ds; entries = xs; checks = cs })) (sym e)
+      (program_without_entry g good name number)
 
   pub fewer_checks : (new : List Check) (name : List ℕ) (number : ℕ) → new ≡ remove cs (place_of name number (homes_of_checks cs))
       → IsProgram (record { modules = ms; definitions = ds; entries = es; checks = new })
   fewer_checks new name number e =
-      subst (λ (xs : List Check). IsProgram (record { modules = ms; definitions = ds; entries = es; checks = xs })) (sym e) (program_without_check g good name number)
+      subst (λ (xs : List Check). IsProgram (record { modules = ms; definitions = ds; entries = es; checks = xs })) (sym e)
+      (program_without_check g good name number)

@@ -9,7 +9,26 @@ use Rattle.plai_clauses.specs.declared.entry.Entry.{Entry}
 use Rattle.plai_clauses.specs.declared.check.Check.{Check}
 use Rattle.plai_clauses.specs.declared.definition.Definition.{Definition}
 use Rattle.plai_clauses.specs.declared.modules.Module.{Module}
-use Rattle.plai_clauses.specs.Program.{ProgramView, same_pred, pred_of, clauses_in, changed_in, with_clause, place_behind, place_of, homes_of_entries, homes_of_checks, with_module, with_clause_of, without_clause, without_clauses, with_entry, with_check, without_entry, without_check}
+use Rattle.plai_clauses.specs.Program.{
+  ProgramView,
+  same_pred,
+  pred_of,
+  clauses_in,
+  changed_in,
+  with_clause,
+  place_behind,
+  place_of,
+  homes_of_entries,
+  homes_of_checks,
+  with_module,
+  with_clause_of,
+  without_clause,
+  without_clauses,
+  with_entry,
+  with_check,
+  without_entry,
+  without_check,
+}
 use Rattle.plai_clauses.specs.WellFormed.{IsWellFormedClause, IsWellFormedEntry, IsWellFormedCheck, IsWellFormed}
 use Rattle.plai_clauses.proofs.OneModule.{same_pred-true, clauses_in-with_clause}
 
@@ -51,7 +70,8 @@ in_changed change f (d ∷ ds) k p c i =
 module _ (g : ProgramView) (good : IsWellFormed g) where
   -- other clauses, of which each predicate's are well formed and its own
   of_clauses : (ds : List Definition)
-      → ((p : PredKey) (c : Clause) → IsIn c (clauses_in ds p) → (c.name ≡ p.name) × (length c.head ≡ p.arity) × IsWellFormedClause c) → IsWellFormed (record g { definitions = ds })
+      → ((p : PredKey) (c : Clause) → IsIn c (clauses_in ds p) → (c.name ≡ p.name) × (length c.head ≡ p.arity) × IsWellFormedClause c)
+      → IsWellFormed (record g { definitions = ds })
   of_clauses ds all = record {
     names = λ p c i. (all p c i).0;
     arities = λ p c i. (all p c i).1;
@@ -66,7 +86,8 @@ module _ (g : ProgramView) (good : IsWellFormed g) where
   pub keeps_with_clause : (name : List ℕ) (c : Clause) → IsWellFormedClause c → IsWellFormed (with_clause_of g name c)
   keeps_with_clause name c h = of_clauses (with_clause g.definitions (pred_of name c) c) all
     where
-      new : (p : PredKey) (x : Clause) → IsIn x (if same_pred (pred_of name c) p then c ∷ [] else []) → (x.name ≡ p.name) × (length x.head ≡ p.arity) × IsWellFormedClause x
+      new : (p : PredKey) (x : Clause) → IsIn x (if same_pred (pred_of name c) p then c ∷ [] else [])
+          → (x.name ≡ p.name) × (length x.head ≡ p.arity) × IsWellFormedClause x
       new p x i =
           by_test (same_pred (pred_of name c) p)
           (λ t.
@@ -80,7 +101,8 @@ module _ (g : ProgramView) (good : IsWellFormed g) where
               (ap (λ (k : PredKey). k.name) e, ap (λ (k : PredKey). k.arity) e, h)
           alone e (inr j) = absurd j
 
-      all : (p : PredKey) (x : Clause) → IsIn x (clauses_in (with_clause g.definitions (pred_of name c) c) p) → (x.name ≡ p.name) × (length x.head ≡ p.arity) × IsWellFormedClause x
+      all : (p : PredKey) (x : Clause) → IsIn x (clauses_in (with_clause g.definitions (pred_of name c) c) p)
+          → (x.name ≡ p.name) × (length x.head ≡ p.arity) × IsWellFormedClause x
       all p x i =
           elim (in_either (clauses_in g.definitions p) (if same_pred (pred_of name c) p then c ∷ [] else []) x
           (subst (λ (cs : List Clause). IsIn x cs) (clauses_in-with_clause g.definitions (pred_of name c) c p) i))

@@ -32,7 +32,8 @@ found_clauses (e ∷ es) pred =
     (λ t. let u : same_pred e.0 pred ≡ true = same_pred-sym pred e.0 t in rw (t, u) refl)
     (λ t. let u : same_pred e.0 pred ≡ false = differ-sym pred e.0 t in rw (t, u) (found_clauses es pred))
 
-pub set_changed : (change : List Clause → List Clause) (es : List (PredKey × List Clause)) (pred : PredKey) (had : List Clause) → lookup (same_pred pred) es ≡ Some had
+pub set_changed : (change : List Clause → List Clause) (es : List (PredKey × List Clause)) (pred : PredKey) (had : List Clause)
+    → lookup (same_pred pred) es ≡ Some had
     → definitions_in (set_value (same_pred pred) es (change had)) ≡ changed_in change (definitions_in es) pred
 set_changed change [] pred had h = cc
 set_changed change (e ∷ es) pred had h =

@@ -1,5 +1,31 @@
 -- The clauses and entries of a program that is one module.
-use Rattle.std.proofs.Common.{◌≡◌, ℕ, Bool, true, false, ◌&&◌, nat_eq, eqb-true, eq-eqb, List, [], ◌∷◌, ◌++◌, filter, fold, append-nil, append_assoc, sym, refl, ap, ◌∙◌, subst, inl, inr, if◌then◌else◌}
+use Rattle.std.proofs.Common.{
+  ◌≡◌,
+  ℕ,
+  Bool,
+  true,
+  false,
+  ◌&&◌,
+  nat_eq,
+  eqb-true,
+  eq-eqb,
+  List,
+  [],
+  ◌∷◌,
+  ◌++◌,
+  filter,
+  fold,
+  append-nil,
+  append_assoc,
+  sym,
+  refl,
+  ap,
+  ◌∙◌,
+  subst,
+  inl,
+  inr,
+  if◌then◌else◌,
+}
 use Rattle.std.specs.Cmp.Lexicographic.{pointwise, same_text, nat_list_eq_equiv}
 use Rattle.plai_theory.specs.Words.{IsIn}
 use Rattle.plai_theory.proofs.Options.{by_test}
@@ -51,7 +77,8 @@ clauses_in-with_clause (d ∷ ds) k c p =
 
 -- the clauses that are added one by one, behind those that were there
 clauses_in-fold : (m : List ℕ) (cs : List Clause) (ds : List Definition) (p : PredKey)
-    → clauses_in (fold (λ definitions clause. with_clause definitions (pred_of m clause) clause) ds cs) p ≡ clauses_in ds p ++ filter (λ c. same_pred (pred_of m c) p) cs
+    → clauses_in (fold (λ definitions clause. with_clause definitions (pred_of m clause) clause) ds cs) p
+    ≡ clauses_in ds p ++ filter (λ c. same_pred (pred_of m c) p) cs
 clauses_in-fold m [] ds p = sym (append-nil (clauses_in ds p))
 clauses_in-fold m (c ∷ cs) ds p =
     clauses_in-fold m cs (with_clause ds (pred_of m c) c) p
@@ -59,12 +86,14 @@ clauses_in-fold m (c ∷ cs) ds p =
     ∙ append_assoc (clauses_in ds p) (if same_pred (pred_of m c) p then c ∷ [] else []) (filter (λ b. same_pred (pred_of m b) p) cs)
     ∙ ap (λ xs. clauses_in ds p ++ xs) (first (same_pred (pred_of m c) p))
   where
-    first : (b : Bool) → (if b then c ∷ [] else []) ++ filter (λ b. same_pred (pred_of m b) p) cs ≡ (if b then c ∷ filter (λ b. same_pred (pred_of m b) p) cs else filter (λ b. same_pred (pred_of m b) p) cs)
+    first : (b : Bool) → (if b then c ∷ [] else []) ++ filter (λ b. same_pred (pred_of m b) p) cs
+        ≡ (if b then c ∷ filter (λ b. same_pred (pred_of m b) p) cs else filter (λ b. same_pred (pred_of m b) p) cs)
     first true = refl
     first false = refl
 
 -- Theorem: the clauses of a predicate are those of the module that belong to it, in order.
-pub clauses_of-one_module : (m : List ℕ) (cs : List Clause) (es : List Entry) (p : PredKey) → clauses_of (one_module m cs es) p ≡ filter (λ c. same_pred (pred_of m c) p) cs
+pub clauses_of-one_module : (m : List ℕ) (cs : List Clause) (es : List Entry) (p : PredKey)
+    → clauses_of (one_module m cs es) p ≡ filter (λ c. same_pred (pred_of m c) p) cs
 clauses_of-one_module m cs es p = clauses_in-fold m cs [] p
 
 -- Theorem: the entries are those of the module.
@@ -84,7 +113,8 @@ of_filter {A} test (y ∷ ys) x i = by_test (test y) (λ t. here t (rw t at i) (
     there (l, u) = (inr l, u)
 
 -- Theorem: where each clause and each entry is well formed, so is the program.
-pub one_module_well_formed : (m : List ℕ) (cs : List Clause) (es : List Entry) → ((c : Clause) → IsIn c cs → IsWellFormedClause c) → ((e : Entry) → IsIn e es → IsWellFormedEntry e) → IsWellFormed (one_module m cs es)
+pub one_module_well_formed : (m : List ℕ) (cs : List Clause) (es : List Entry) → ((c : Clause) → IsIn c cs → IsWellFormedClause c)
+    → ((e : Entry) → IsIn e es → IsWellFormedEntry e) → IsWellFormed (one_module m cs es)
 one_module_well_formed m cs es good known =
     record {
       names = λ p c i. ap (λ (k : PredKey). k.name) (same_pred-true (pred_of m c) p (member p c i).1);

@@ -1,5 +1,32 @@
 -- Where an item goes among those that stand in the order of their modules' names.
-use Rattle.std.proofs.Common.{◌≡◌, ◌∙◌, ℕ, ◌<◌, ◌≤◌, zero, suc, Bool, true, false, Less, Equal, Greater, Ordering, List, [], ◌∷◌, length, map, inl, inr, refl, sym, ap, subst, arith}
+use Rattle.std.proofs.Common.{
+  ◌≡◌,
+  ◌∙◌,
+  ℕ,
+  ◌<◌,
+  ◌≤◌,
+  zero,
+  suc,
+  Bool,
+  true,
+  false,
+  Less,
+  Equal,
+  Greater,
+  Ordering,
+  List,
+  [],
+  ◌∷◌,
+  length,
+  map,
+  inl,
+  inr,
+  refl,
+  sym,
+  ap,
+  subst,
+  arith,
+}
 use Rattle.std.proofs.lemmas.Bool.{cases_lt}
 use Rattle.std.proofs.lemmas.Cmp.{nat_list_cmp_total}
 use Rattle.std.specs.Prelude.{AllPairs, not, slice_index_or}
@@ -46,11 +73,13 @@ module _ {A : Type 0} (home : A → List ℕ) (name : List ℕ) where
             rw same holds
       ]
 
-  pub place_is : (xs : List A) (i : ℕ) → i ≤ length xs → IsPartitionPoint (λ y. is_up_to y ≡ true) (λ y. is_up_to y ≡ false) xs i → i ≡ place_behind name (map home xs)
+  pub place_is : (xs : List A) (i : ℕ) → i ≤ length xs → IsPartitionPoint (λ y. is_up_to y ≡ true) (λ y. is_up_to y ≡ false) xs i
+      → i ≡ place_behind name (map home xs)
   place_is [] i within point = omega arith
   place_is (x ∷ xs) zero within point =
       let t : is_lt (slice_cmp nat_cmp name (home x)) ≡ true = not_false (is_lt (slice_cmp nat_cmp name (home x))) (point.1 0 x (omega arith) (omega arith)) in
       rw t refl
   place_is (x ∷ xs) (suc i) within point =
       let t : is_lt (slice_cmp nat_cmp name (home x)) ≡ false = not_true (is_lt (slice_cmp nat_cmp name (home x))) (point.0 0 x (omega arith) (omega arith)) in
-      rw t (ap suc (place_is xs i (omega arith) (λ k d low high. point.0 (suc k) d (omega arith) (omega arith), λ k d low high. point.1 (suc k) d (omega arith) (omega arith))))
+      rw t (ap suc (place_is xs i (omega arith)
+      (λ k d low high. point.0 (suc k) d (omega arith) (omega arith), λ k d low high. point.1 (suc k) d (omega arith) (omega arith))))

@@ -35,7 +35,8 @@ module _ (p : PlainDomain) (laws : IsLawful p) where
     is_there : (s : StateView) → IsStateOf p n v s → There s
     is_there s h = subst (λ k. p.Below n k s s) h.variables (subst (λ k. p.Below k s.variables s s) h.arity h.state)
 
-    all_there : {S : Type 0} (view : S → StateView) (o : Option S) → UpTo (p.Below n v) (option_map view o) (option_map view o) → IfSome o (λ s. IsStateOf p n v (view s))
+    all_there : {S : Type 0} (view : S → StateView) (o : Option S) → UpTo (p.Below n v) (option_map view o) (option_map view o)
+        → IfSome o (λ s. IsStateOf p n v (view s))
     all_there view None h = tt
     all_there view (Some s) h = is_state_of (view s) h
 

@@ -32,7 +32,20 @@ use Rattle.plai_depth_laws.proofs.Moves.{pull_keeps, pulls_keep, push_greatest, 
 use Rattle.plai_depth_laws.proofs.Closed.{cuts_up}
 use Rattle.plai_depth_laws.proofs.Described.{shape, shape-Var, all_described_under, all_under_described}
 use Rattle.plai_depth_laws.proofs.Instances.{shapes, length_numbers, shape_pulled, shapes_pulled, lowered, shapes_lowered, argument_is, variable_is}
-use Rattle.plai_depth_laws.proofs.States.{LeqCut-refl, value_pulled, value_pushed, value_any, value_integer, value_unified, argument_below, one_below, one_push, unified_parts, unify_greatest, free_some}
+use Rattle.plai_depth_laws.proofs.States.{
+  LeqCut-refl,
+  value_pulled,
+  value_pushed,
+  value_any,
+  value_integer,
+  value_unified,
+  argument_below,
+  one_below,
+  one_push,
+  unified_parts,
+  unify_greatest,
+  free_some,
+}
 use Rattle.plai_depth_laws.proofs.Laws.{leq_of, right, below_of, describe_value}
 use Rattle.plai_depth_laws.proofs.Properties.{shape_integer, describe_above, entails_sound, excludes_sound}
 
@@ -49,7 +62,8 @@ module _ (k : ℕ) where
   value_describes : (ts : List Term) (ss : List Skeleton) → AreCut k (length ts) ss → AreUnder (map shape ts) ss → Describes k (Terms ss) ts
   value_describes ts ss c p = record { is_value = leq_of (LeqCut-refl c); described = all_under_described ts ss p }
 
-describe_describes : (k : ℕ) (pre : List Prop) (ts : List Term) → All (speaks_within (length ts)) pre → has_properties ts pre → Describes (suc k) ((depth_k (suc k)).describe (length ts) pre) ts
+describe_describes : (k : ℕ) (pre : List Prop) (ts : List Term) → All (speaks_within (length ts)) pre → has_properties ts pre
+    → Describes (suc k) ((depth_k (suc k)).describe (length ts) pre) ts
 describe_describes k pre ts w h = value_describes (suc k) ts _ (describe_value k (length ts) pre).order.first (describe_above ts pre w h)
 
 depth_k_tells : (k : ℕ) → TellsTruly (depth_k (suc k))
@@ -67,7 +81,8 @@ instance_described : (k n v : ℕ) (hs : List Term) (i : ℕ → Term) (ss : Lis
     → DescribesInstance k (state_with n v ss) hs (map i (numbers 0 v))
 instance_described k n v hs i ss e c p = record {
   is_state = subst (λ m. Below k m (length (map i (numbers 0 v))) (state_with n v ss) (state_with n v ss)) (sym e)
-      (subst (λ m. Below k n m (state_with n v ss) (state_with n v ss)) (sym (length-map (numbers 0 v) i ∙ length_numbers 0 v)) (below_of k n v ss ss (LeqCut-refl c)));
+      (subst (λ m. Below k n m (state_with n v ss) (state_with n v ss)) (sym (length-map (numbers 0 v) i ∙ length_numbers 0 v))
+      (below_of k n v ss ss (LeqCut-refl c)));
   described = all_under_described (map i (numbers 0 v)) ss p;
 }
 
@@ -83,15 +98,18 @@ acts_enter k head variables h call ts n s len d u =
     let i : ℕ → Term = then_also (raised n) (bound_to s) in
     let made : map (under i) head ≡ map (under (bound_to s)) ts =
     sym (under_under_all (raised n) (bound_to s) head) ∙ (unifier (map (under (raised n)) head) ts s (length-map head (under (raised n)) ∙ len) u).unifies in
-    let same : map shape (map (under (bound_to s)) ts) ≡ map (pull (shapes i variables)) head = ap (map shape) (sym made) ∙ shapes_pulled i variables head h.below in
+    let same : map shape (map (under (bound_to s)) ts) ≡ map (pull (shapes i variables)) head =
+    ap (map shape) (sym made) ∙ shapes_pulled i variables head h.below in
     let fits : AreUnder (map (pull (shapes i variables)) head) (skeletons_of call) =
     subst (λ l. AreUnder l (skeletons_of call)) same (AreUnder-trans (lowered (bound_to s) ts) (all_described_under d.described)) in
-    let start : AreUnder (shapes i variables) (replicate variables Any) = subst (λ m. AreUnder (shapes i variables) (replicate m Any)) (length_numbers 0 variables) (all_shapes_any i (numbers 0 variables)) in
+    let start : AreUnder (shapes i variables) (replicate variables Any) =
+    subst (λ m. AreUnder (shapes i variables) (replicate m Any)) (length_numbers 0 variables) (all_shapes_any i (numbers 0 variables)) in
     let (ss, e, up) = pushes_greatest (shapes i variables) head (skeletons_of call) (replicate variables Any) start fits in
     let value : AreCut k (length head) (skeletons_of call) = subst (λ m. AreCut k m (skeletons_of call)) (sym len) d.is_value.order.first in (
       state_with (length head) variables ss,
       ap (state_from (length head) variables) e,
-      instance_described k (length head) variables (map (under i) head) i ss (length-map head (under i)) (value_pushed k variables head h.below value (value_any k variables) e) up,
+      instance_described k (length head) variables (map (under i) head) i ss (length-map head (under i))
+          (value_pushed k variables head h.below value (value_any k variables) e) up,
     )
 
 module _ (k : ℕ) (head : List Term) (variables : ℕ) (st : StateView) (i : ℕ → Term) (d : Speaks (depth_k k) head variables st i) where
@@ -136,8 +154,10 @@ module _ (k : ℕ) (head : List Term) (variables : ℕ) (st : StateView) (i : �
       acts_back : (answer : Abs) → Describes k answer (map (under f) (map (under i) args))
           → (next : StateView) × (((depth_k k).back st args answer).value ≡ Some next) × Speaks (depth_k k) head variables next j
       acts_back answer a =
-          let same : map shape (map (under f) (map (under i) args)) ≡ map (pull (shapes j variables)) args = ap (map shape) (under_under_all i f args) ∙ shapes_pulled j variables args below in
-          let fits : AreUnder (map (pull (shapes j variables)) args) (skeletons_of answer) = subst (λ l. AreUnder l (skeletons_of answer)) same (all_described_under a.described) in
+          let same : map shape (map (under f) (map (under i) args)) ≡ map (pull (shapes j variables)) args =
+          ap (map shape) (under_under_all i f args) ∙ shapes_pulled j variables args below in
+          let fits : AreUnder (map (pull (shapes j variables)) args) (skeletons_of answer) =
+          subst (λ l. AreUnder l (skeletons_of answer)) same (all_described_under a.described) in
           let value : AreCut k (length args) (skeletons_of answer) =
           subst (λ m. AreCut k m (skeletons_of answer)) (length-map (map (under i) args) (under f) ∙ length-map args (under i)) a.is_value.order.first in
           let (r, e, up) = pushes_greatest (shapes j variables) args (skeletons_of answer) ss still fits in
@@ -149,17 +169,20 @@ module _ (k : ℕ) (head : List Term) (variables : ℕ) (st : StateView) (i : �
       -- an argument's own skeleton after the substitution is pulled out of the variables' own
       own_after : (n : ℕ) → 1 ≤ n → n ≤ length args → shape (under f (argument (map (under i) args) n)) ≡ pull (shapes j variables) (argument args n)
       own_after n l m =
-          ap (λ t. shape (under f t)) (argument_is i args n l m) ∙ ap shape (under_under i f (argument args n)) ∙ shape_pulled j variables (argument args n) (there n l m)
+          ap (λ t. shape (under f t)) (argument_is i args n l m) ∙ ap shape (under_under i f (argument args n))
+          ∙ shape_pulled j variables (argument args n) (there n l m)
 
       both_one : (m n : ℕ) → 1 ≤ m → m ≤ length args → 1 ≤ n → n ≤ length args
           → under f (argument (map (under i) args) m) ≡ under f (argument (map (under i) args) n)
-          → (next : StateView) × (state_from st.arity st.variables (unify_of k (argument args m) (argument args n) ss) ≡ Some next) × Speaks (depth_k k) head variables next j
+          → (next : StateView) × (state_from st.arity st.variables (unify_of k (argument args m) (argument args n) ss) ≡ Some next)
+          × Speaks (depth_k k) head variables next j
       both_one m n a b c e same =
           let t : Term = argument args m in
           let u : Term = argument args n in
           let rs : List Skeleton = shapes j variables in
           let one : pull rs t ≡ pull rs u = sym (own_after m a b) ∙ ap shape same ∙ own_after n c e in
-          let (r, p, g, is, up) = unify_greatest k t u rs ss still (pull rs t) (pull_keeps rs ss still t) (IsUnder-trans (IsUnder.same one) (pull_keeps rs ss still u))
+          let (r, p, g, is, up) = unify_greatest k t u rs ss still (pull rs t) (pull_keeps rs ss still t)
+          (IsUnder-trans (IsUnder.same one) (pull_keeps rs ss still u))
           (IsUnder.same refl) (IsUnder.same (sym one)) in
           after (unify_of k t u ss) r g
           (value_unified k variables t u (there m a b) (there n c e) ss r are_cut.count (unified_parts k t u ss r g))
@@ -168,7 +191,8 @@ module _ (k : ℕ) (head : List Term) (variables : ℕ) (st : StateView) (i : �
       first_of : (s t : Term) → ◌≡◌ {A = List Term} (s ∷ []) (t ∷ []) → s ≡ t
       first_of s t e = cc
 
-      unified_same : (m n : ℕ) (s : Bindings) → UnifiesTo (argument (map (under i) args) m ∷ []) (argument (map (under i) args) n ∷ []) (Unified s) → ((v : ℕ) → f v ≡ bound_to s v)
+      unified_same : (m n : ℕ) (s : Bindings) → UnifiesTo (argument (map (under i) args) m ∷ []) (argument (map (under i) args) n ∷ []) (Unified s)
+          → ((v : ℕ) → f v ≡ bound_to s v)
           → under f (argument (map (under i) args) m) ≡ under f (argument (map (under i) args) n)
       unified_same m n s u is =
           let x : Term = argument (map (under i) args) m in
@@ -185,21 +209,24 @@ module _ (k : ℕ) (head : List Term) (variables : ℕ) (st : StateView) (i : �
       free_after m w a b e =
           let t : Term = argument args m in
           let made : under i t ≡ Var w = sym (argument_is i args m a b) ∙ e in
-          let free : out-Skeleton (pull (shapes i variables) t) ≡ Skeleton-F.Any = ap out-Skeleton (sym (shape_pulled i variables t (there m a b)) ∙ ap shape made) ∙ shape-Var w in
+          let free : out-Skeleton (pull (shapes i variables) t) ≡ Skeleton-F.Any =
+          ap out-Skeleton (sym (shape_pulled i variables t (there m a b)) ∙ ap shape made) ∙ shape-Var w in
           after (refine_of k args (action.Var m) ss) ss
           (free_some t ss (variable_is i w t made) (over_any (pull_keeps (shapes i variables) ss own t) free)) are_cut still
 
 -- `int` is pushed into an argument that is an integer afterwards
 integer_after : (k : ℕ) (head : List Term) (variables : ℕ) (st : StateView) (i : ℕ → Term) (d : Speaks (depth_k (suc k)) head variables st i) (f : ℕ → Term)
     (args : List Term) (below : all_below variables args ≡ true) (m : ℕ) (z : ℤ) → 1 ≤ m → m ≤ length args → under f (argument (map (under i) args) m) ≡ Int z
-    → (next : StateView) × (state_from st.arity st.variables (push (argument args m) (skeletons_of st.abs) Integer) ≡ Some next) × Speaks (depth_k (suc k)) head variables next (then_also i f)
+    → (next : StateView) × (state_from st.arity st.variables (push (argument args m) (skeletons_of st.abs) Integer) ≡ Some next)
+    × Speaks (depth_k (suc k)) head variables next (then_also i f)
 integer_after k head variables st i d f args below m z a b e =
     let t : Term = argument args m in
     let ss : List Skeleton = skeletons_of st.abs in
     let rs : List Skeleton = shapes (then_also i f) variables in
     let w : has_variables_below variables t ≡ true = argument_below variables args (m - 1) below (omega arith) in
     let fits : IsUnder (pull rs t) Integer =
-    subst (λ s. IsUnder s Integer) (own_after (suc k) head variables st i d f args below m a b) (shape_integer (under f (argument (map (under i) args) m)) (z, e)) in
+    subst (λ s. IsUnder s Integer) (own_after (suc k) head variables st i d f args below m a b)
+    (shape_integer (under f (argument (map (under i) args) m)) (z, e)) in
     let (r, g, up) = push_greatest rs t ss Integer (still (suc k) head variables st i d f) fits in
     after (suc k) head variables st i d f (push t ss Integer) r g
     (value_pushed (suc k) variables (t ∷ []) (one_below variables t w) (value_integer k) (are_cut (suc k) head variables st i d) (one_push t Integer ss ∙ g)) up

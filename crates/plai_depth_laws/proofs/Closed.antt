@@ -56,12 +56,14 @@ pub cuts_up : (k : ℕ) (ss : List Skeleton) → AreUnder ss (map (cut k) ss)
 cuts_up k [] = none
 cuts_up k (s ∷ ss) = more (cut_up k s) (cuts_up k ss)
 
-pub pushes_cut : (k limit : ℕ) (ts : List Term) → all_below limit ts ≡ true → (as' : List Skeleton) → length ts ≡ length as' → (ss ss' : List Skeleton) → length ss ≡ limit
+pub pushes_cut : (k limit : ℕ) (ts : List Term) → all_below limit ts ≡ true → (as' : List Skeleton) → length ts ≡ length as' → (ss ss' : List Skeleton)
+    → length ss ≡ limit
     → map (cut k) as' ≡ as' → map (cut k) ss ≡ ss → push_all ts as' ss ≡ Some ss' → map (cut k) ss' ≡ ss'
 pushes_cut k limit ts w as' l ss ss' len ca cs e =
     let (under, fit) = pushes_lower limit ts w as' l ss ss' len e in
     let below : AreUnder (map (cut k) ss') ss = subst (AreUnder (map (cut k) ss')) cs (cuts_keep k under) in
-    let fits : AreUnder (map (pull (map (cut k) ss')) ts) as' = AreUnder-trans (pulls_shrink ss' ts k) (subst (AreUnder (map (cut k) (map (pull ss') ts))) ca (cuts_keep k fit)) in
+    let fits : AreUnder (map (pull (map (cut k) ss')) ts) as' =
+    AreUnder-trans (pulls_shrink ss' ts k) (subst (AreUnder (map (cut k) (map (pull ss') ts))) ca (cuts_keep k fit)) in
     let (top, f, g) = pushes_greatest (map (cut k) ss') ts as' ss below fits in
     let is : top ≡ ss' = cc in
     AreUnder-antisym (subst (AreUnder (map (cut k) ss')) is g) (cuts_up k ss')

@@ -46,7 +46,8 @@ module _ (f : Skeleton → Skeleton) (keeps : (s t : Skeleton) → IsUnder s t �
   layer_keeps (same e) = same (ap (λ s. cut_layer f (out-Skeleton s)) e)
   layer_keeps (any e) = any (ap (λ y. out-Skeleton (cut_layer f y)) e ∙ outs-Any)
   layer_keeps {s} {t} (integer n e g) =
-      subst (λ y. IsUnder (cut_layer f y) (cut_layer f (out-Skeleton t))) (sym e) (subst (λ y. IsUnder (cut_layer f (Skeleton-F.Int n)) (cut_layer f y)) (sym g) (integer_keeps n (integer_fits n)))
+      subst (λ y. IsUnder (cut_layer f y) (cut_layer f (out-Skeleton t))) (sym e)
+      (subst (λ y. IsUnder (cut_layer f (Skeleton-F.Int n)) (cut_layer f y)) (sym g) (integer_keeps n (integer_fits n)))
   layer_keeps (compound name ss ts e g ps) =
       compound name (map f ss) (map f ts)
       (ap (λ y. out-Skeleton (cut_layer f y)) e ∙ outs-Compound name (map f ss))

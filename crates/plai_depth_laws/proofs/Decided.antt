@@ -4,7 +4,15 @@ use Rattle.std.specs.Bool.{Decides}
 use Rattle.std.specs.List.{AllByRecursion}
 use Rattle.std.proofs.lemmas.Bool.{false≢true, and_parts}
 use Rattle.std.proofs.lemmas.List.{length-map}
-use Rattle.plai_terms.specs.declared.skeleton.Skeleton.{Skeleton, out-Skeleton, roll-Skeleton, out-roll-Skeleton, roll-out-Skeleton, map-Skeleton, fold-roll-Skeleton}
+use Rattle.plai_terms.specs.declared.skeleton.Skeleton.{
+  Skeleton,
+  out-Skeleton,
+  roll-Skeleton,
+  out-roll-Skeleton,
+  roll-out-Skeleton,
+  map-Skeleton,
+  fold-roll-Skeleton,
+}
 use Rattle.plai_terms.specs.declared.skeleton.Skeleton.TheOpen.{Skeleton-F}
 use Rattle.plai_terms.proofs.Same.{names_equal}
 use Rattle.plai_terms.proofs.Skeletons.{arguments, induction}
@@ -84,7 +92,8 @@ under_any _ = refl
 mutual
   tested : {s t : Skeleton} → IsUnder s t → is_under s t ≡ true
   tested {s} {t} (IsUnder.same e) = ap (is_under s) (sym e) ∙ itself s
-  tested {s} {t} (IsUnder.any e) = test_at s (out-Skeleton s) refl t Skeleton-F.Any e ∙ under_any (map-Skeleton Skeleton (Skeleton → Bool) is_under (out-Skeleton s))
+  tested {s} {t} (IsUnder.any e) = test_at s (out-Skeleton s) refl t Skeleton-F.Any e
+      ∙ under_any (map-Skeleton Skeleton (Skeleton → Bool) is_under (out-Skeleton s))
   tested {s} {t} (IsUnder.integer n e f) = test_at s (Skeleton-F.Int n) e t Skeleton-F.Integer f
   tested {s} {t} (IsUnder.compound name ss ts e f ps) =
       test_at s (Skeleton-F.Compound name ss) e t (Skeleton-F.Compound name ts) f

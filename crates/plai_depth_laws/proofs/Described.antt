@@ -1,9 +1,26 @@
 -- A skeleton describes a term where the term's own skeleton, with `any` for its variables, lies at or below it.
 use Rattle.std.proofs.Common.{◌≡◌, inl, inr, ℕ, ℤ, List, [], ◌∷◌, map, sym, ap, ◌∙◌, rules}
 use Rattle.std.specs.List.{AllByRecursion}
-use Rattle.plai_terms.specs.declared.term.Term.{Term, out-Term, roll-Term, roll-out-Term, Var, Int as number_term, Atom as constant, Compound as structure, the_lemmas}
+use Rattle.plai_terms.specs.declared.term.Term.{
+  Term,
+  out-Term,
+  roll-Term,
+  roll-out-Term,
+  Var,
+  Int as number_term,
+  Atom as constant,
+  Compound as structure,
+  the_lemmas,
+}
 use Rattle.plai_terms.specs.declared.term.Term.TheOpen.{Term-F}
-use Rattle.plai_terms.specs.declared.term.Term.TheVariants.{rolls-Int, rolls-Atom, rolls-Compound, outs-Int as outs-number, outs-Atom as outs-constant, outs-Compound as outs-structure}
+use Rattle.plai_terms.specs.declared.term.Term.TheVariants.{
+  rolls-Int,
+  rolls-Atom,
+  rolls-Compound,
+  outs-Int as outs-number,
+  outs-Atom as outs-constant,
+  outs-Compound as outs-structure,
+}
 use Rattle.plai_terms.specs.Substitution.{under}
 use Rattle.plai_terms.proofs.Terms.{induction}
 use Rattle.plai_terms.proofs.Under.{under-Compound}
@@ -40,7 +57,8 @@ shape_of_number t n e = ap (λ t. out-Skeleton (shape t)) (is_number t n e) ∙ 
 shape_of_constant : (t : Term) (a : List ℕ) → out-Term t ≡ Term-F.Atom a → out-Skeleton (shape t) ≡ Skeleton-F.Atom a
 shape_of_constant t a e = ap (λ t. out-Skeleton (shape t)) (is_constant t a e) ∙ ap out-Skeleton (pull-Atom [] a) ∙ outs-Atom a
 
-shape_of_structure : (t : Term) (name : List ℕ) (args : List Term) → out-Term t ≡ Term-F.Compound name args → out-Skeleton (shape t) ≡ Skeleton-F.Compound name (map shape args)
+shape_of_structure : (t : Term) (name : List ℕ) (args : List Term) → out-Term t ≡ Term-F.Compound name args
+    → out-Skeleton (shape t) ≡ Skeleton-F.Compound name (map shape args)
 shape_of_structure t name args e =
     ap (λ t. out-Skeleton (shape t)) (is_structure t name args e) ∙ ap out-Skeleton (pull-Compound [] name args) ∙ outs-Compound name (map shape args)
 
@@ -104,6 +122,7 @@ module _ (f : ℕ → Term) where
       (λ n. let e : under f (number_term n) ≡ number_term n = search (rules, the_lemmas) in IsUnder.same (ap shape e))
       (λ a. let e : under f (constant a) ≡ constant a = search (rules, the_lemmas) in IsUnder.same (ap shape e))
       (λ name args h. IsUnder.compound name (map shape (map (under f) args)) (map shape args)
-      (ap (λ t. out-Skeleton (shape t)) (under-Compound f name args) ∙ shape_of_structure (structure name (map (under f) args)) name (map (under f) args) (outs-structure name (map (under f) args)))
+      (ap (λ t. out-Skeleton (shape t)) (under-Compound f name args)
+      ∙ shape_of_structure (structure name (map (under f) args)) name (map (under f) args) (outs-structure name (map (under f) args)))
       (shape_of_structure (structure name args) name args (outs-structure name args))
       (all_lie args h))

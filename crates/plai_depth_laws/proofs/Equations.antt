@@ -4,7 +4,19 @@ use Rattle.std.specs.Cmp.Lexicographic.{pointwise}
 use Rattle.std.specs.Ordering.{int_eq}
 use Rattle.std.proofs.lemmas.Bool.{eqb-true, eq-eqb}
 use Rattle.std.proofs.lemmas.Bool.Decides.{Decides-int_eq}
-use Rattle.plai_terms.specs.declared.skeleton.Skeleton.{Skeleton, out-Skeleton, roll-Skeleton, map-Skeleton, fold-roll-Skeleton, roll-out-Skeleton, Any, Integer, Int, Atom, Compound}
+use Rattle.plai_terms.specs.declared.skeleton.Skeleton.{
+  Skeleton,
+  out-Skeleton,
+  roll-Skeleton,
+  map-Skeleton,
+  fold-roll-Skeleton,
+  roll-out-Skeleton,
+  Any,
+  Integer,
+  Int,
+  Atom,
+  Compound,
+}
 use Rattle.plai_terms.specs.declared.skeleton.Skeleton.TheOpen.{Skeleton-F}
 use Rattle.plai_terms.specs.declared.skeleton.Skeleton.TheVariants.{outs-Any, outs-Integer, outs-Int, outs-Atom, outs-Compound}
 use Rattle.plai_terms.proofs.Same.{both, names_equal}
@@ -32,7 +44,8 @@ is-Atom s a e = same_layer s (Atom a) (e ∙ sym (outs-Atom a))
 pub is-Compound : (s : Skeleton) (name : List ℕ) (args : List Skeleton) → out-Skeleton s ≡ Skeleton-F.Compound name args → s ≡ Compound name args
 is-Compound s name args e = same_layer s (Compound name args) (e ∙ sym (outs-Compound name args))
 
-join-roll : (x : Skeleton-F Skeleton) (t : Skeleton) → join (roll-Skeleton x) t ≡ join_layer (map-Skeleton Skeleton (Skeleton → Skeleton) join x) (out-Skeleton t)
+join-roll : (x : Skeleton-F Skeleton) (t : Skeleton)
+    → join (roll-Skeleton x) t ≡ join_layer (map-Skeleton Skeleton (Skeleton → Skeleton) join x) (out-Skeleton t)
 join-roll x t = at_skeleton t (fold-roll-Skeleton (Skeleton → Skeleton) (λ x t. join_layer x (out-Skeleton t)) x)
 
 meet-roll : (x : Skeleton-F Skeleton) (t : Skeleton) → meet (roll-Skeleton x) t ≡ meet_step (map-Skeleton Skeleton (Skeleton → Option Skeleton) meet x) t

@@ -11,7 +11,8 @@ pub integers_joined : (depth_k 1).join (two (skeleton_of_one (codes "f") Any) (I
     ≡ two (skeleton_of_one (codes "f") Any) Integer
 integers_joined = search (rules, the_lemmas)
 
-pub fact_cut : (depth_k 1).exit (state_with 2 0 []) (of_one (codes "f") (constant (codes "a")) ∷ number (pos 1) ∷ []) ≡ two (skeleton_of_one (codes "f") Any) (Int (pos 1))
+pub fact_cut : (depth_k 1).exit (state_with 2 0 []) (of_one (codes "f") (constant (codes "a")) ∷ number (pos 1) ∷ [])
+    ≡ two (skeleton_of_one (codes "f") Any) (Int (pos 1))
 fact_cut = search (rules, the_lemmas, term.the_lemmas)
 
 pub number_entered : ((depth_k 2).enter (one Any) (successor (Var 0) ∷ []) 1).value ≡ Some (state_with 1 1 (Any ∷ []))
@@ -33,7 +34,8 @@ pub list_back : ((depth_k 2).back (state_with 2 4 (Any ∷ Any ∷ Any ∷ Any �
     ≡ Some (state_with 2 4 (Any ∷ Atom (codes "[]") ∷ Any ∷ Int (pos 0) ∷ []))
 list_back = search (rules, the_lemmas, term.the_lemmas)
 
-pub list_counted : ((depth_k 2).refine (state_with 2 4 (Any ∷ Atom (codes "[]") ∷ Any ∷ Int (pos 0) ∷ [])) (Var 2 ∷ structure (codes "+") (Var 3 ∷ number (pos 1) ∷ []) ∷ []) (BindInt 1)).value
+pub list_counted : ((depth_k 2).refine (state_with 2 4 (Any ∷ Atom (codes "[]") ∷ Any ∷ Int (pos 0) ∷ []))
+    (Var 2 ∷ structure (codes "+") (Var 3 ∷ number (pos 1) ∷ []) ∷ []) (BindInt 1)).value
     ≡ Some (state_with 2 4 (Any ∷ Atom (codes "[]") ∷ Integer ∷ Int (pos 0) ∷ []))
 list_counted = search (rules, the_lemmas, term.the_lemmas)
 

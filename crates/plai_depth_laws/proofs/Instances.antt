@@ -34,13 +34,15 @@ length_shapes i n = length-map (map i (numbers 0 n)) shape ∙ length-map (numbe
 shape_at : (i : ℕ → Term) (first n j : ℕ) → j < n → skeleton_at (map shape (map i (numbers first n))) j ≡ shape (i (first + j))
 shape_at i first zero j l = absurd (omega (arith, l))
 shape_at i first (suc n) zero l = let e : first ≡ first + 0 = omega arith in ap (λ v. shape (i v)) e
-shape_at i first (suc n) (suc j) l = let e : suc first + j ≡ first + suc j = omega arith in shape_at i (suc first) n j (omega (arith, l)) ∙ ap (λ v. shape (i v)) e
+shape_at i first (suc n) (suc j) l = let e : suc first + j ≡ first + suc j = omega arith in
+    shape_at i (suc first) n j (omega (arith, l)) ∙ ap (λ v. shape (i v)) e
 
 module _ (i : ℕ → Term) (n : ℕ) where
   abbrev Pulls : Term → Type 0
   Pulls t = has_variables_below n t ≡ true → shape (under i t) ≡ pull (shapes i n) t
 
-  all_pull : (args : List Term) → AllByRecursion Pulls args → list_all (λ b. b) (map (has_variables_below n) args) ≡ true → map shape (map (under i) args) ≡ map (pull (shapes i n)) args
+  all_pull : (args : List Term) → AllByRecursion Pulls args → list_all (λ b. b) (map (has_variables_below n) args) ≡ true
+      → map shape (map (under i) args) ≡ map (pull (shapes i n)) args
   all_pull [] h e = refl
   all_pull (a ∷ args) h e =
       let b = and_parts (has_variables_below n a) (list_all (λ b. b) (map (has_variables_below n) args)) e in

@@ -4,13 +4,36 @@ use Rattle.std.specs.Cmp.Lexicographic.{pointwise}
 use Rattle.std.specs.Ordering.{int_eq}
 use Rattle.std.specs.List.{AllByRecursion}
 use Rattle.std.proofs.lemmas.List.{length-map}
-use Rattle.plai_terms.specs.declared.skeleton.Skeleton.{Skeleton, out-Skeleton, roll-Skeleton, out-roll-Skeleton, map-Skeleton, Any, Integer, Int, Atom, Compound}
+use Rattle.plai_terms.specs.declared.skeleton.Skeleton.{
+  Skeleton,
+  out-Skeleton,
+  roll-Skeleton,
+  out-roll-Skeleton,
+  map-Skeleton,
+  Any,
+  Integer,
+  Int,
+  Atom,
+  Compound,
+}
 use Rattle.plai_terms.specs.declared.skeleton.Skeleton.TheOpen.{Skeleton-F}
 use Rattle.plai_terms.specs.declared.skeleton.Skeleton.TheVariants.{outs-Any, outs-Integer, outs-Int, outs-Compound}
 use Rattle.plai_terms.proofs.Skeletons.{arguments, induction}
 use Rattle.plai_depth_laws.specs.Skeletons.{same_functor, join_args, join_layer, join}
 use Rattle.plai_depth_laws.specs.Order.{IsUnder, same, any, integer, compound, AreUnder, none, more}
-use Rattle.plai_depth_laws.proofs.Equations.{is-Any, is-Integer, is-Int, is-Atom, is-Compound, join_at, integers_equal, integer_itself, name_itself, functors_equal, functor_itself}
+use Rattle.plai_depth_laws.proofs.Equations.{
+  is-Any,
+  is-Integer,
+  is-Int,
+  is-Atom,
+  is-Compound,
+  join_at,
+  integers_equal,
+  integer_itself,
+  name_itself,
+  functors_equal,
+  functor_itself,
+}
 use Rattle.plai_terms.proofs.Same.{names_equal}
 use Rattle.plai_depth_laws.proofs.Order.{length-AreUnder}
 
@@ -22,7 +45,8 @@ AreBelow s t m = IsUnder s m × IsUnder t m
 abbrev Goes : Skeleton → Type 0
 Goes s = (t : Skeleton) → AreBelow s t (join s t)
 
-all_go : (ss ts : List Skeleton) → AllByRecursion Goes ss → length ss ≡ length ts → AreUnder ss (join_args (map join ss) ts) × AreUnder ts (join_args (map join ss) ts)
+all_go : (ss ts : List Skeleton) → AllByRecursion Goes ss → length ss ≡ length ts
+    → AreUnder ss (join_args (map join ss) ts) × AreUnder ts (join_args (map join ss) ts)
 all_go [] [] h e = (none, none)
 all_go [] (t ∷ ts) h e = absurd cc
 all_go (s ∷ ss) [] h e = absurd cc
@@ -32,15 +56,18 @@ all_go (s ∷ ss) (t ∷ ts) h e =
     let ps = all_go ss ts h.1 len in
     (more p.0 ps.0, more p.1 ps.1)
 
-integers_below : (s t : Skeleton) (m n : ℤ) → out-Skeleton s ≡ Skeleton-F.Int m → out-Skeleton t ≡ Skeleton-F.Int n → (b : Bool) → int_eq m n ≡ b → AreBelow s t (cond b (Int m) Integer)
+integers_below : (s t : Skeleton) (m n : ℤ) → out-Skeleton s ≡ Skeleton-F.Int m → out-Skeleton t ≡ Skeleton-F.Int n → (b : Bool) → int_eq m n ≡ b
+    → AreBelow s t (cond b (Int m) Integer)
 integers_below s t m n e f true q = (same (is-Int s m e), same (is-Int t n f ∙ ap Int (sym (integers_equal m n q))))
 integers_below s t m n e f false q = (integer m e outs-Integer, integer n f outs-Integer)
 
-atoms_below : (s t : Skeleton) (a b : List ℕ) → out-Skeleton s ≡ Skeleton-F.Atom a → out-Skeleton t ≡ Skeleton-F.Atom b → (c : Bool) → pointwise nat_eq a b ≡ c → AreBelow s t (cond c (Atom a) Any)
+atoms_below : (s t : Skeleton) (a b : List ℕ) → out-Skeleton s ≡ Skeleton-F.Atom a → out-Skeleton t ≡ Skeleton-F.Atom b → (c : Bool)
+    → pointwise nat_eq a b ≡ c → AreBelow s t (cond c (Atom a) Any)
 atoms_below s t a b e f true q = (same (is-Atom s a e), same (is-Atom t b f ∙ ap Atom (sym (names_equal a b q))))
 atoms_below s t a b e f false q = (any outs-Any, any outs-Any)
 
-compounds_below : (s t : Skeleton) (a b : List ℕ) (ss ts : List Skeleton) → out-Skeleton s ≡ Skeleton-F.Compound a ss → out-Skeleton t ≡ Skeleton-F.Compound b ts → AllByRecursion Goes ss
+compounds_below : (s t : Skeleton) (a b : List ℕ) (ss ts : List Skeleton) → out-Skeleton s ≡ Skeleton-F.Compound a ss
+    → out-Skeleton t ≡ Skeleton-F.Compound b ts → AllByRecursion Goes ss
     → (c : Bool) → same_functor a (length (map join ss)) b (length ts) ≡ c → AreBelow s t (cond c (Compound a (join_args (map join ss) ts)) Any)
 compounds_below s t a b ss ts e f h true q =
     let r = functors_equal a (length (map join ss)) b (length ts) q in
@@ -83,7 +110,8 @@ all_rest : (ss : List Skeleton) → AllByRecursion Rests ss → join_args (map j
 all_rest [] h = refl
 all_rest (s ∷ ss) h = let a = h.0 in let b = all_rest ss h.1 in λ i. a i ∷ b i
 
-rest_layer : (s : Skeleton) (x : Skeleton-F Skeleton) → out-Skeleton s ≡ x → AllByRecursion Rests (arguments x) → join_layer (map-Skeleton Skeleton (Skeleton → Skeleton) join x) x ≡ s
+rest_layer : (s : Skeleton) (x : Skeleton-F Skeleton) → out-Skeleton s ≡ x → AllByRecursion Rests (arguments x)
+    → join_layer (map-Skeleton Skeleton (Skeleton → Skeleton) join x) x ≡ s
 rest_layer s Skeleton-F.Any e h = sym (is-Any s e)
 rest_layer s Skeleton-F.Integer e h = sym (is-Integer s e)
 rest_layer s (Skeleton-F.Int n) e h = ap (λ b. cond b (Int n) Integer) (integer_itself n) ∙ sym (is-Int s n e)
@@ -112,7 +140,8 @@ mutual
   join_over {s} {t} (integer n e f) = join_at s Skeleton-F.Integer f t (Skeleton-F.Int n) e ∙ sym (is-Integer s f)
   join_over {s} {t} (compound name ts ss e f ps) =
       join_at s (Skeleton-F.Compound name ss) f t (Skeleton-F.Compound name ts) e
-      ∙ ap (λ b. cond b (Compound name (join_args (map join ss) ts)) Any) (functor_itself name (length (map join ss)) (length ts) (length-map ss join ∙ sym (length-AreUnder ps)))
+      ∙ ap (λ b. cond b (Compound name (join_args (map join ss) ts)) Any)
+      (functor_itself name (length (map join ss)) (length ts) (length-map ss join ∙ sym (length-AreUnder ps)))
       ∙ ap (Compound name) (joins_over ps) ∙ sym (is-Compound s name ss f)
 
   joins_over : {ss ts : List Skeleton} → AreUnder ts ss → join_args (map join ss) ts ≡ ss
@@ -122,11 +151,13 @@ mutual
 mutual
   pub join_under : {s t : Skeleton} → IsUnder s t → join s t ≡ t
   join_under {s} {t} (same e) = ap (λ s. join s t) e ∙ join_itself t
-  join_under {s} {t} (any e) = join_at s (out-Skeleton s) refl t Skeleton-F.Any e ∙ any_second (map-Skeleton Skeleton (Skeleton → Skeleton) join (out-Skeleton s)) ∙ sym (is-Any t e)
+  join_under {s} {t} (any e) = join_at s (out-Skeleton s) refl t Skeleton-F.Any e
+      ∙ any_second (map-Skeleton Skeleton (Skeleton → Skeleton) join (out-Skeleton s)) ∙ sym (is-Any t e)
   join_under {s} {t} (integer n e f) = join_at s (Skeleton-F.Int n) e t Skeleton-F.Integer f ∙ sym (is-Integer t f)
   join_under {s} {t} (compound name ss ts e f ps) =
       join_at s (Skeleton-F.Compound name ss) e t (Skeleton-F.Compound name ts) f
-      ∙ ap (λ b. cond b (Compound name (join_args (map join ss) ts)) Any) (functor_itself name (length (map join ss)) (length ts) (length-map ss join ∙ length-AreUnder ps))
+      ∙ ap (λ b. cond b (Compound name (join_args (map join ss) ts)) Any)
+      (functor_itself name (length (map join ss)) (length ts) (length-map ss join ∙ length-AreUnder ps))
       ∙ ap (Compound name) (joins_under ps) ∙ sym (is-Compound t name ts f)
 
   joins_under : {ss ts : List Skeleton} → AreUnder ss ts → join_args (map join ss) ts ≡ ts

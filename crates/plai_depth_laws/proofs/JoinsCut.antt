@@ -37,7 +37,8 @@ module _ (k : ℕ) (closed : (s t : Skeleton) → cut k s ≡ s → cut k t ≡ 
       sym (outs-Compound name (map (cut k) ss)) ∙ ap (λ y. out-Skeleton (cut_layer (cut k) y)) (sym e) ∙ ap out-Skeleton p ∙ e in
       cc
 
-  integers_cut : (s : Skeleton) (m : ℤ) → out-Skeleton s ≡ Skeleton-F.Int m → cut (suc k) s ≡ s → (b : Bool) → cut (suc k) (cond b (Int m) Integer) ≡ cond b (Int m) Integer
+  integers_cut : (s : Skeleton) (m : ℤ) → out-Skeleton s ≡ Skeleton-F.Int m → cut (suc k) s ≡ s → (b : Bool)
+      → cut (suc k) (cond b (Int m) Integer) ≡ cond b (Int m) Integer
   integers_cut s m e p true = ap (cut (suc k)) (sym (is-Int s m e)) ∙ p ∙ is-Int s m e
   integers_cut s m e p false = cut-Integer k
 
@@ -57,7 +58,8 @@ module _ (k : ℕ) (closed : (s t : Skeleton) → cut k s ≡ s → cut k t ≡ 
   layers_cut s t (Skeleton-F.Int m) (Skeleton-F.Int n) e f p q = integers_cut s m e p (int_eq m n)
   layers_cut s t (Skeleton-F.Atom a) (Skeleton-F.Atom b) e f p q = atoms_cut a (pointwise nat_eq a b)
   layers_cut s t (Skeleton-F.Compound a ss) (Skeleton-F.Compound b ts) e f p q =
-      compounds_cut a (join_args (map join ss) ts) (args_cut ss ts (args_of s a ss e p) (args_of t b ts f q)) (same_functor a (length (map join ss)) b (length ts))
+      compounds_cut a (join_args (map join ss) ts) (args_cut ss ts (args_of s a ss e p) (args_of t b ts f q))
+      (same_functor a (length (map join ss)) b (length ts))
   layers_cut s t _ _ e f p q = cut-Any (suc k)
 
 pub join_cut : (k : ℕ) (s t : Skeleton) → cut k s ≡ s → cut k t ≡ t → cut k (join s t) ≡ join s t
@@ -72,5 +74,6 @@ join_cut (suc k) s t p q =
     let e = join_at s (out-Skeleton s) refl t (out-Skeleton t) refl in
     ap (cut (suc k)) e ∙ layers_cut k (join_cut k) s t (out-Skeleton s) (out-Skeleton t) refl refl p q ∙ sym e
 
-pub joins_cut : (k : ℕ) (ss ts : List Skeleton) → map (cut k) ss ≡ ss → map (cut k) ts ≡ ts → map (cut k) (join_args (map join ss) ts) ≡ join_args (map join ss) ts
+pub joins_cut : (k : ℕ) (ss ts : List Skeleton) → map (cut k) ss ≡ ss → map (cut k) ts ≡ ts
+    → map (cut k) (join_args (map join ss) ts) ≡ join_args (map join ss) ts
 joins_cut k = args_cut k (join_cut k)

@@ -14,7 +14,20 @@ use Rattle.plai_depth_laws.specs.Moves.{push_all}
 use Rattle.plai_depth_laws.specs.Operations.{enter_of, refine_of}
 use Rattle.plai_depth_laws.specs.DepthK.{skeletons_of, LeqCut, Leq, Below, state_with, state_from, depth_k}
 use Rattle.plai_depth_laws.proofs.Rank.{ranks_fall}
-use Rattle.plai_depth_laws.proofs.States.{LeqCut-trans, LeqCut-antisym, LeqCut-refl, join_first, join_second, join_of_least, pulled_order, Grows, push_order, enter_order, refine_order, value_describe}
+use Rattle.plai_depth_laws.proofs.States.{
+  LeqCut-trans,
+  LeqCut-antisym,
+  LeqCut-refl,
+  join_first,
+  join_second,
+  join_of_least,
+  pulled_order,
+  Grows,
+  push_order,
+  enter_order,
+  refine_order,
+  value_describe,
+}
 
 -- at two lists of skeletons
 pub leq_of : {k n : ℕ} {ss ts : List Skeleton} → LeqCut k n ss ts → Leq k n (Terms ss) (Terms ts)
@@ -80,7 +93,8 @@ module _ (k n v : ℕ) where
       (subst (λ x. R (state_with n v (skeletons_of s.abs)) x) (sym (state_is n v t b.second_arity b.second_variables b.order.second_is))
       (h (skeletons_of s.abs) (skeletons_of t.abs) b.order.order))
 
-  pub call_monotone : (args : List Term) (s t : StateView) → Below k n v s t → Leq k (length args) ((depth_k k).call s args).value ((depth_k k).call t args).value
+  pub call_monotone : (args : List Term) (s t : StateView) → Below k n v s t
+      → Leq k (length args) ((depth_k k).call s args).value ((depth_k k).call t args).value
   call_monotone args s t b = leq_of (pulled_order k args b.order.order.under)
 
   pub back_monotone : (args : List Term) (s t : StateView) (a b : Abs) → all_below v args ≡ true → Below k n v s t → Leq k (length args) a b
@@ -95,11 +109,14 @@ module _ (k n v : ℕ) where
       → UpTo (Below k n v) ((depth_k k).enter a head v).value ((depth_k k).enter b head v).value
   enter_monotone head a b e below h =
       subst (λ m. UpTo (Below k n v) (state_from m v (enter_of head v (skeletons_of a))) (state_from m v (enter_of head v (skeletons_of b)))) (sym e)
-      (states_up_to (enter_of head v (skeletons_of a)) (enter_of head v (skeletons_of b)) (enter_order k v head below (subst (λ m. LeqCut k m (skeletons_of a) (skeletons_of b)) (sym e) h.order)))
+      (states_up_to (enter_of head v (skeletons_of a)) (enter_of head v (skeletons_of b))
+      (enter_order k v head below (subst (λ m. LeqCut k m (skeletons_of a) (skeletons_of b)) (sym e) h.order)))
 
-pub refine_monotone : (k n v : ℕ) (args : List Term) (x : Action) (s t : StateView) → all_below v args ≡ true → acts_within (length args) x → Below (suc k) n v s t
+pub refine_monotone : (k n v : ℕ) (args : List Term) (x : Action) (s t : StateView) → all_below v args ≡ true → acts_within (length args) x
+    → Below (suc k) n v s t
     → UpTo (Below (suc k) n v) ((depth_k (suc k)).refine s args x).value ((depth_k (suc k)).refine t args x).value
-refine_monotone k n v args x s t below w = at_states (suc k) n v (λ s t. UpTo (Below (suc k) n v) ((depth_k (suc k)).refine s args x).value ((depth_k (suc k)).refine t args x).value)
+refine_monotone k n v args x s t below w =
+    at_states (suc k) n v (λ s t. UpTo (Below (suc k) n v) ((depth_k (suc k)).refine s args x).value ((depth_k (suc k)).refine t args x).value)
     (λ ss ts h. states_up_to (suc k) n v (refine_of (suc k) args x ss) (refine_of (suc k) args x ts) (refine_order k v args below x w h)) s t
 
 pub describe_value : (k n : ℕ) (pre : List Prop) → Leq (suc k) n ((depth_k (suc k)).describe n pre) ((depth_k (suc k)).describe n pre)

@@ -1,18 +1,66 @@
 -- A meet is the greatest skeleton below both, and there is one where anything lies below both.
-use Rattle.std.proofs.Common.{◌≡◌, ℕ, zero, suc, ℤ, Bool, true, false, cond, nat_eq, List, [], ◌∷◌, map, length, replicate, Option, Some, None, refl, sym, ap, ◌∙◌, subst}
+use Rattle.std.proofs.Common.{
+  ◌≡◌,
+  ℕ,
+  zero,
+  suc,
+  ℤ,
+  Bool,
+  true,
+  false,
+  cond,
+  nat_eq,
+  List,
+  [],
+  ◌∷◌,
+  map,
+  length,
+  replicate,
+  Option,
+  Some,
+  None,
+  refl,
+  sym,
+  ap,
+  ◌∙◌,
+  subst,
+}
 use Rattle.std.specs.Cmp.Lexicographic.{pointwise}
 use Rattle.std.specs.Ordering.{int_eq}
 use Rattle.std.specs.Option.{option_map, option_and_then}
 use Rattle.std.specs.List.{AllByRecursion}
 use Rattle.std.proofs.lemmas.List.{length-map}
-use Rattle.plai_terms.specs.declared.skeleton.Skeleton.{Skeleton, out-Skeleton, roll-Skeleton, out-roll-Skeleton, map-Skeleton, Any, Integer, Int, Atom, Compound}
+use Rattle.plai_terms.specs.declared.skeleton.Skeleton.{
+  Skeleton,
+  out-Skeleton,
+  roll-Skeleton,
+  out-roll-Skeleton,
+  map-Skeleton,
+  Any,
+  Integer,
+  Int,
+  Atom,
+  Compound,
+}
 use Rattle.plai_terms.specs.declared.skeleton.Skeleton.TheOpen.{Skeleton-F}
 use Rattle.plai_terms.specs.declared.skeleton.Skeleton.TheVariants.{outs-Any, outs-Integer, outs-Int, outs-Atom, outs-Compound}
 use Rattle.plai_terms.proofs.Same.{names_equal}
 use Rattle.plai_terms.proofs.Skeletons.{arguments, induction}
 use Rattle.plai_depth_laws.specs.Skeletons.{same_functor, consed, meet_args, meet_layer, meet_step, meet}
 use Rattle.plai_depth_laws.specs.Order.{IsUnder, same, any, integer, compound, AreUnder, none, more}
-use Rattle.plai_depth_laws.proofs.Equations.{is-Any, is-Integer, is-Int, is-Atom, is-Compound, meet_at, integers_equal, integer_itself, name_itself, functors_equal, functor_itself}
+use Rattle.plai_depth_laws.proofs.Equations.{
+  is-Any,
+  is-Integer,
+  is-Int,
+  is-Atom,
+  is-Compound,
+  meet_at,
+  integers_equal,
+  integer_itself,
+  name_itself,
+  functors_equal,
+  functor_itself,
+}
 use Rattle.plai_depth_laws.proofs.Order.{length-AreUnder}
 
 -- with a layer that isn't `any`
@@ -26,7 +74,8 @@ module _ (s t : Skeleton) where
   pub meet-number : (m : ℤ) → out-Skeleton s ≡ Skeleton-F.Int m → (y : Skeleton-F Skeleton) → out-Skeleton t ≡ y → meet s t ≡ meet_layer (Skeleton-F.Int m) y
   meet-number m e y f = meet_at s (Skeleton-F.Int m) e t ∙ ap (meet_layer (Skeleton-F.Int m)) f
 
-  pub meet-atom : (a : List ℕ) → out-Skeleton s ≡ Skeleton-F.Atom a → (y : Skeleton-F Skeleton) → out-Skeleton t ≡ y → meet s t ≡ meet_layer (Skeleton-F.Atom a) y
+  pub meet-atom : (a : List ℕ) → out-Skeleton s ≡ Skeleton-F.Atom a → (y : Skeleton-F Skeleton) → out-Skeleton t ≡ y
+      → meet s t ≡ meet_layer (Skeleton-F.Atom a) y
   meet-atom a e y f = meet_at s (Skeleton-F.Atom a) e t ∙ ap (meet_layer (Skeleton-F.Atom a)) f
 
   pub meet-compound : (a : List ℕ) (ss : List Skeleton) → out-Skeleton s ≡ Skeleton-F.Compound a ss → (y : Skeleton-F Skeleton) → out-Skeleton t ≡ y
@@ -60,7 +109,8 @@ rest_layer s Skeleton-F.Integer e h = meet-integer s s e Skeleton-F.Integer e �
 rest_layer s (Skeleton-F.Int n) e h = meet-number s s n e (Skeleton-F.Int n) e ∙ some_cond (Int n) (integer_itself n) ∙ ap Some (sym (is-Int s n e))
 rest_layer s (Skeleton-F.Atom a) e h = meet-atom s s a e (Skeleton-F.Atom a) e ∙ some_cond (Atom a) (name_itself a) ∙ ap Some (sym (is-Atom s a e))
 rest_layer s (Skeleton-F.Compound a ss) e h =
-    meet-compound s s a ss e (Skeleton-F.Compound a ss) e ∙ compound_meets a (map meet ss) ss ss (length-map ss meet) (all_rest ss h) ∙ ap Some (sym (is-Compound s a ss e))
+    meet-compound s s a ss e (Skeleton-F.Compound a ss) e ∙ compound_meets a (map meet ss) ss ss (length-map ss meet) (all_rest ss h)
+    ∙ ap Some (sym (is-Compound s a ss e))
 
 pub meet_itself : (s : Skeleton) → meet s s ≡ Some s
 meet_itself = induction Rests (λ x h. rest_layer (roll-Skeleton x) x (out-roll-Skeleton x) h)
@@ -173,7 +223,8 @@ consed_parts None ms us e = absurd cc
 consed_parts (Some u) None us e = absurd cc
 consed_parts (Some u) (Some rest) us e = (u, rest, refl, refl, cc)
 
-all_lower : (ss ts us : List Skeleton) → AllByRecursion Lowers ss → length ss ≡ length ts → meet_args (map meet ss) ts ≡ Some us → AreUnder us ss × AreUnder us ts
+all_lower : (ss ts us : List Skeleton) → AllByRecursion Lowers ss → length ss ≡ length ts → meet_args (map meet ss) ts ≡ Some us
+    → AreUnder us ss × AreUnder us ts
 all_lower [] [] us h len e = let is : [] ≡ us = cc in (subst (λ l. AreUnder l []) is none, subst (λ l. AreUnder l []) is none)
 all_lower [] (t ∷ ts) us h len e = absurd cc
 all_lower (s ∷ ss) [] us h len e = absurd cc
@@ -184,19 +235,23 @@ all_lower (s ∷ ss) (t ∷ ts) us h len e =
     let ps = all_lower ss ts rest h.1 l g in
     (subst (λ l. AreUnder l (s ∷ ss)) (sym is) (more p.0 ps.0), subst (λ l. AreUnder l (t ∷ ts)) (sym is) (more p.1 ps.1))
 
-numbers_lower : (s t : Skeleton) (m n : ℤ) → out-Skeleton s ≡ Skeleton-F.Int m → out-Skeleton t ≡ Skeleton-F.Int n → (b : Bool) → int_eq m n ≡ b → Lower s t (cond b (Some (Int m)) None)
+numbers_lower : (s t : Skeleton) (m n : ℤ) → out-Skeleton s ≡ Skeleton-F.Int m → out-Skeleton t ≡ Skeleton-F.Int n → (b : Bool) → int_eq m n ≡ b
+    → Lower s t (cond b (Some (Int m)) None)
 numbers_lower s t m n e f true q = lower_some s t (Int m) (same (sym (is-Int s m e))) (same (ap Int (integers_equal m n q) ∙ sym (is-Int t n f)))
 numbers_lower s t m n e f false q = lower_none s t
 
-atoms_lower : (s t : Skeleton) (a b : List ℕ) → out-Skeleton s ≡ Skeleton-F.Atom a → out-Skeleton t ≡ Skeleton-F.Atom b → (c : Bool) → pointwise nat_eq a b ≡ c → Lower s t (cond c (Some (Atom a)) None)
+atoms_lower : (s t : Skeleton) (a b : List ℕ) → out-Skeleton s ≡ Skeleton-F.Atom a → out-Skeleton t ≡ Skeleton-F.Atom b → (c : Bool)
+    → pointwise nat_eq a b ≡ c → Lower s t (cond c (Some (Atom a)) None)
 atoms_lower s t a b e f true q = lower_some s t (Atom a) (same (sym (is-Atom s a e))) (same (ap Atom (names_equal a b q) ∙ sym (is-Atom t b f)))
 atoms_lower s t a b e f false q = lower_none s t
 
-compound_some : (a : List ℕ) (o : Option (List Skeleton)) (m : Skeleton) → option_map (Compound a) o ≡ Some m → (us : List Skeleton) × (o ≡ Some us) × (m ≡ Compound a us)
+compound_some : (a : List ℕ) (o : Option (List Skeleton)) (m : Skeleton) → option_map (Compound a) o ≡ Some m
+    → (us : List Skeleton) × (o ≡ Some us) × (m ≡ Compound a us)
 compound_some a None m e = absurd cc
 compound_some a (Some us) m e = (us, refl, cc)
 
-compounds_lower : (s t : Skeleton) (a b : List ℕ) (ss ts : List Skeleton) → out-Skeleton s ≡ Skeleton-F.Compound a ss → out-Skeleton t ≡ Skeleton-F.Compound b ts → AllByRecursion Lowers ss
+compounds_lower : (s t : Skeleton) (a b : List ℕ) (ss ts : List Skeleton) → out-Skeleton s ≡ Skeleton-F.Compound a ss
+    → out-Skeleton t ≡ Skeleton-F.Compound b ts → AllByRecursion Lowers ss
     → (c : Bool) → same_functor a (length (map meet ss)) b (length ts) ≡ c → Lower s t (cond c (option_map (Compound a) (meet_args (map meet ss) ts)) None)
 compounds_lower s t a b ss ts e f h false q m k = absurd cc
 compounds_lower s t a b ss ts e f h true q m k =
@@ -255,7 +310,8 @@ meet-first_Int n t = meet-number (Int n) t n (outs-Int n) (out-Skeleton t) refl
 pub meet-first_Atom : (a : List ℕ) (t : Skeleton) → meet (Atom a) t ≡ meet_layer (Skeleton-F.Atom a) (out-Skeleton t)
 meet-first_Atom a t = meet-atom (Atom a) t a (outs-Atom a) (out-Skeleton t) refl
 
-pub meet-first_Compound : (a : List ℕ) (ss : List Skeleton) (t : Skeleton) → meet (Compound a ss) t ≡ meet_layer (Skeleton-F.Compound a (map meet ss)) (out-Skeleton t)
+pub meet-first_Compound : (a : List ℕ) (ss : List Skeleton) (t : Skeleton)
+    → meet (Compound a ss) t ≡ meet_layer (Skeleton-F.Compound a (map meet ss)) (out-Skeleton t)
 meet-first_Compound a ss t = meet-compound (Compound a ss) t a ss (outs-Compound a ss) (out-Skeleton t) refl
 
 pub meet-second_Any : (s : Skeleton) → meet s Any ≡ Some s

@@ -1,5 +1,33 @@
 -- What is pulled out of skeletons keeps the order, and a push gives the greatest skeletons under which the term lies below what is pushed.
-use Rattle.std.proofs.Common.{◌≡◌, inl, inr, ℕ, zero, suc, ◌<◌, ℤ, true, false, cond, nat_lt, List, [], ◌∷◌, map, length, set, Option, Some, None, refl, sym, ap, ◌∙◌, subst, rules}
+use Rattle.std.proofs.Common.{
+  ◌≡◌,
+  inl,
+  inr,
+  ℕ,
+  zero,
+  suc,
+  ◌<◌,
+  ℤ,
+  true,
+  false,
+  cond,
+  nat_lt,
+  List,
+  [],
+  ◌∷◌,
+  map,
+  length,
+  set,
+  Option,
+  Some,
+  None,
+  refl,
+  sym,
+  ap,
+  ◌∙◌,
+  subst,
+  rules,
+}
 use Rattle.std.specs.Option.{option_map, option_and_then}
 use Rattle.std.specs.List.{list_all, AllByRecursion}
 use Rattle.std.proofs.lemmas.List.{length-map, get_or-set_same}
@@ -41,13 +69,15 @@ push-Int n ss a = search (rules, the_lemmas)
 pub push-Atom : (name : List ℕ) (ss : List Skeleton) (a : Skeleton) → push (constant name) ss a ≡ option_map (λ m. ss) (meet (Atom name) a)
 push-Atom name ss a = search (rules, the_lemmas)
 
-pub push-Compound : (name : List ℕ) (args : List Term) (ss : List Skeleton) (a : Skeleton) → push (structure name args) ss a ≡ push_compound name (map push args) ss (out-Skeleton a)
+pub push-Compound : (name : List ℕ) (args : List Term) (ss : List Skeleton) (a : Skeleton)
+    → push (structure name args) ss a ≡ push_compound name (map push args) ss (out-Skeleton a)
 push-Compound name args ss a = search (rules, the_lemmas)
 
 pub below-Var : (limit v : ℕ) → has_variables_below limit (Var v) ≡ nat_lt v limit
 below-Var limit v = search (rules, the_lemmas)
 
-pub below-Compound : (limit : ℕ) (name : List ℕ) (args : List Term) → has_variables_below limit (structure name args) ≡ list_all (λ b. b) (map (has_variables_below limit) args)
+pub below-Compound : (limit : ℕ) (name : List ℕ) (args : List Term)
+    → has_variables_below limit (structure name args) ≡ list_all (λ b. b) (map (has_variables_below limit) args)
 below-Compound limit name args = search (rules, the_lemmas)
 
 -- ---- a pull keeps the order
@@ -121,9 +151,11 @@ module _ (limit : ℕ) where
       (AreUnder-trans under first.under, more (IsUnder-trans (pull_keeps ss' mid under t) first.fits) rest)
 
   compound_lowers : (name : List ℕ) (args : List Term) → AllByRecursion Lowers args → list_all (λ b. b) (map (has_variables_below limit) args) ≡ true
-      → (ss ss' : List Skeleton) (a : Skeleton) → length ss ≡ limit → (x : Skeleton-F Skeleton) → out-Skeleton a ≡ x → push_compound name (map push args) ss x ≡ Some ss'
+      → (ss ss' : List Skeleton) (a : Skeleton) → length ss ≡ limit → (x : Skeleton-F Skeleton) → out-Skeleton a ≡ x
+      → push_compound name (map push args) ss x ≡ Some ss'
       → Lowered (structure name args) a ss ss'
-  compound_lowers name args h w ss ss' a len Skeleton-F.Any i e = let is : ss ≡ ss' = cc in record { under = subst (λ x. AreUnder x ss) is (refl_all ss); fits = any i }
+  compound_lowers name args h w ss ss' a len Skeleton-F.Any i e = let is : ss ≡ ss' = cc in
+      record { under = subst (λ x. AreUnder x ss) is (refl_all ss); fits = any i }
   compound_lowers name args h w ss ss' a len (Skeleton-F.Compound other as') i e =
       elim (same_functor name (length (map push args)) other (length as')) as (λ b. same_functor name (length (map push args)) other (length as') ≡ b
       → cond b (push_args (map push args) as' ss) None ≡ Some ss' → Lowered (structure name args) a ss ss') [
@@ -139,7 +171,8 @@ module _ (limit : ℕ) where
       ] refl e
   compound_lowers name args h w ss ss' a len _ i e = absurd cc
 
-  pub push_lowers : (t : Term) → has_variables_below limit t ≡ true → (ss ss' : List Skeleton) (a : Skeleton) → length ss ≡ limit → push t ss a ≡ Some ss' → Lowered t a ss ss'
+  pub push_lowers : (t : Term) → has_variables_below limit t ≡ true → (ss ss' : List Skeleton) (a : Skeleton) → length ss ≡ limit → push t ss a ≡ Some ss'
+      → Lowered t a ss ss'
   push_lowers = induction Lowers
       (λ v w ss ss' a len e.
       let l : v < limit = ltb-true v limit (sym (below-Var limit v) ∙ w) in
@@ -169,7 +202,8 @@ module _ (limit : ℕ) where
       compound_lowers name args h (sym (below-Compound limit name args) ∙ w) ss ss' a len (out-Skeleton a) refl (sym (push-Compound name args ss a) ∙ e))
 
 -- terms in turn
-pub pushes_lower : (limit : ℕ) (ts : List Term) → all_below limit ts ≡ true → (as' : List Skeleton) → length ts ≡ length as' → (ss ss' : List Skeleton) → length ss ≡ limit
+pub pushes_lower : (limit : ℕ) (ts : List Term) → all_below limit ts ≡ true → (as' : List Skeleton) → length ts ≡ length as' → (ss ss' : List Skeleton)
+    → length ss ≡ limit
     → push_all ts as' ss ≡ Some ss' → AreUnder ss' ss × AreUnder (map (pull ss') ts) as'
 pushes_lower limit [] w [] l ss ss' len e = let is : ss ≡ ss' = cc in (subst (λ x. AreUnder x ss) is (refl_all ss), none)
 pushes_lower limit [] w (a ∷ as') l ss ss' len e = absurd cc
@@ -189,14 +223,16 @@ under_set none v m q = none
 under_set (more p ps) zero m q = more q ps
 under_set (more p ps) (suc v) m q = more p (under_set ps v m q)
 
-chained : {rs : List Skeleton} {o : Option (List Skeleton)} (f : List Skeleton → Option (List Skeleton)) → (mid : List Skeleton) → o ≡ Some mid → AllAbove rs (f mid) → AllAbove rs (option_and_then f o)
+chained : {rs : List Skeleton} {o : Option (List Skeleton)} (f : List Skeleton → Option (List Skeleton)) → (mid : List Skeleton) → o ≡ Some mid
+    → AllAbove rs (f mid) → AllAbove rs (option_and_then f o)
 chained {rs} f mid e r = subst (λ o. AllAbove rs (option_and_then f o)) (sym e) r
 
 module _ (rs : List Skeleton) where
   abbrev Greatest : Term → Type 0
   Greatest t = (ss : List Skeleton) (a : Skeleton) → AreUnder rs ss → IsUnder (pull rs t) a → AllAbove rs (push t ss a)
 
-  args_greatest : (args : List Term) → AllByRecursion Greatest args → (as' ss : List Skeleton) → AreUnder rs ss → AreUnder (map (pull rs) args) as' → AllAbove rs (push_args (map push args) as' ss)
+  args_greatest : (args : List Term) → AllByRecursion Greatest args → (as' ss : List Skeleton) → AreUnder rs ss → AreUnder (map (pull rs) args) as'
+      → AllAbove rs (push_args (map push args) as' ss)
   args_greatest [] h as' ss p q = (ss, refl, p)
   args_greatest (t ∷ args) h [] ss p q = (ss, refl, p)
   args_greatest (t ∷ args) h (a ∷ as') ss p (more q qs) =

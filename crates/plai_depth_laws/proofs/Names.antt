@@ -1,5 +1,34 @@
 -- Names, constants and integers as they stand in texts: which of them begin alike.
-use Rattle.std.proofs.Common.{◌≡◌, ℕ, ℤ, pos, negsuc, suc, ◌^◌, ◌<◌, Bool, true, false, ◌&&◌, ◌||◌, not, cond, eqb, ltb, List, [], ◌∷◌, ◌++◌, refl, sym, ap, ◌∙◌, arith, append_assoc, codes}
+use Rattle.std.proofs.Common.{
+  ◌≡◌,
+  ℕ,
+  ℤ,
+  pos,
+  negsuc,
+  suc,
+  ◌^◌,
+  ◌<◌,
+  Bool,
+  true,
+  false,
+  ◌&&◌,
+  ◌||◌,
+  not,
+  cond,
+  eqb,
+  ltb,
+  List,
+  [],
+  ◌∷◌,
+  ◌++◌,
+  refl,
+  sym,
+  ap,
+  ◌∙◌,
+  arith,
+  append_assoc,
+  codes,
+}
 use Rattle.std.specs.Fmt.{decimal, signed_decimal}
 use Rattle.std.specs.List.{list_all, flat_map}
 use Rattle.std.specs.Char.{is_ascii_lowercase}
@@ -135,7 +164,8 @@ no_quote (c ∷ cs) s e = false≢true (ap (is_one_of in_terms) (sym e) ∙ s)
 quoted_behind : (a us : List ℕ) → quoted_text a ++ us ≡ 39 ∷ (flat_map escaped a ++ 39 ∷ us)
 quoted_behind a us = ap (λ z. 39 ∷ z) (append_assoc (flat_map escaped a) (39 ∷ []) us)
 
-pub both_quoted : (a b us vs : List ℕ) → stops (is_one_of in_terms) us ≡ true → stops (is_one_of in_terms) vs ≡ true → quoted_text a ++ us ≡ quoted_text b ++ vs → (a ≡ b) × (us ≡ vs)
+pub both_quoted : (a b us vs : List ℕ) → stops (is_one_of in_terms) us ≡ true → stops (is_one_of in_terms) vs ≡ true
+    → quoted_text a ++ us ≡ quoted_text b ++ vs → (a ≡ b) × (us ≡ vs)
 both_quoted a b us vs s t e =
     let f : 39 ∷ (flat_map escaped a ++ 39 ∷ us) ≡ 39 ∷ (flat_map escaped b ++ 39 ∷ vs) = sym (quoted_behind a us) ∙ e ∙ quoted_behind b vs in
     let g : flat_map escaped a ++ 39 ∷ us ≡ flat_map escaped b ++ 39 ∷ vs = cc in
@@ -161,14 +191,16 @@ bare_unquoted a = bare_cases Unquoted a (word_unquoted a) (symbolic_unquoted a)
     (solo_cases Unquoted a (λ us e. absurd (omega (arith, e))) (λ us e. absurd (omega (arith, e))) (λ us e. absurd (omega (arith, e))))
 
 -- a name between quotes, and an atom
-pub quoted_atom : (a b us vs : List ℕ) → stops (is_one_of in_terms) us ≡ true → stops (is_one_of in_terms) vs ≡ true → quoted_text a ++ us ≡ atom_text b ++ vs → (a ≡ b) × (us ≡ vs)
+pub quoted_atom : (a b us vs : List ℕ) → stops (is_one_of in_terms) us ≡ true → stops (is_one_of in_terms) vs ≡ true → quoted_text a ++ us ≡ atom_text b ++ vs
+    → (a ≡ b) × (us ≡ vs)
 quoted_atom a b us vs s t = elim (is_bare b) as (λ c. is_bare b ≡ c → quoted_text a ++ us ≡ cond c b (quoted_text b) ++ vs → (a ≡ b) × (us ≡ vs)) [
   | true ↦ λ h e. absurd (bare_unquoted b h vs (ap first_of (sym e)))
   | false ↦ λ h e. both_quoted a b us vs s t e
 ] refl
 
 -- two constants
-pub constants_apart : (a b us vs : List ℕ) → stops (is_one_of in_terms) us ≡ true → stops (is_one_of in_terms) vs ≡ true → constant_text a ++ us ≡ constant_text b ++ vs → (a ≡ b) × (us ≡ vs)
+pub constants_apart : (a b us vs : List ℕ) → stops (is_one_of in_terms) us ≡ true → stops (is_one_of in_terms) vs ≡ true
+    → constant_text a ++ us ≡ constant_text b ++ vs → (a ≡ b) × (us ≡ vs)
 constants_apart a b us vs s t = by (is_reserved a) (is_reserved b)
   where
     by : (p q : Bool) → cond p (quoted_text a) (atom_text a) ++ us ≡ cond q (quoted_text b) (atom_text b) ++ vs → (a ≡ b) × (us ≡ vs)
@@ -178,7 +210,8 @@ constants_apart a b us vs s t = by (is_reserved a) (is_reserved b)
     by false false e = atoms_apart a b us vs s t e
 
 -- a constant, and an atom's text: one is reserved, or both are equal
-pub constant_atom : (a b us vs : List ℕ) → stops (is_one_of in_terms) us ≡ true → stops (is_one_of in_terms) vs ≡ true → constant_text a ++ us ≡ atom_text b ++ vs → (a ≡ b) × (us ≡ vs)
+pub constant_atom : (a b us vs : List ℕ) → stops (is_one_of in_terms) us ≡ true → stops (is_one_of in_terms) vs ≡ true
+    → constant_text a ++ us ≡ atom_text b ++ vs → (a ≡ b) × (us ≡ vs)
 constant_atom a b us vs s t = by (is_reserved a)
   where
     by : (p : Bool) → cond p (quoted_text a) (atom_text a) ++ us ≡ atom_text b ++ vs → (a ≡ b) × (us ≡ vs)
@@ -186,7 +219,8 @@ constant_atom a b us vs s t = by (is_reserved a)
     by false e = atoms_apart a b us vs s t e
 
 -- a constant is no reserved name that stands bare
-pub constant_reserved : (a b us vs : List ℕ) → is_reserved b ≡ true → is_bare b ≡ true → stops (is_one_of in_terms) us ≡ true → stops (is_one_of in_terms) vs ≡ true → constant_text a ++ us ≡ b ++ vs → ⊥
+pub constant_reserved : (a b us vs : List ℕ) → is_reserved b ≡ true → is_bare b ≡ true → stops (is_one_of in_terms) us ≡ true
+    → stops (is_one_of in_terms) vs ≡ true → constant_text a ++ us ≡ b ++ vs → ⊥
 constant_reserved a b us vs r h s t = by (is_reserved a) refl
   where
     by : (p : Bool) → is_reserved a ≡ p → cond p (quoted_text a) (atom_text a) ++ us ≡ b ++ vs → ⊥

@@ -70,7 +70,8 @@ under_atom a (compound name ss ts e f ps) i = absurd cc
 
 -- it is `any`, or a compound of the same functor with arguments above
 abbrev pub Over : List ℕ → List Skeleton → Skeleton → Type 0
-Over name ss t = (out-Skeleton t ≡ Skeleton-F.Any) ⊎ record { args : List Skeleton; is : out-Skeleton t ≡ Skeleton-F.Compound name args; under : AreUnder ss args }
+Over name ss t = (out-Skeleton t ≡ Skeleton-F.Any)
+    ⊎ record { args : List Skeleton; is : out-Skeleton t ≡ Skeleton-F.Compound name args; under : AreUnder ss args }
 
 pub over_compound : {s t : Skeleton} (name : List ℕ) (ss : List Skeleton) → IsUnder s t → out-Skeleton s ≡ Skeleton-F.Compound name ss → Over name ss t
 over_compound name ss (same e) i = inr (record { args = ss; is = ap out-Skeleton (sym e) ∙ i; under = refl_all ss })
@@ -95,7 +96,8 @@ over_number n (any e) i = inl e
 over_number n (integer m e f) i = inr (inl f)
 over_number n (compound name ss ts e f ps) i = absurd cc
 
-pub over_atom : {s t : Skeleton} (a : List ℕ) → IsUnder s t → out-Skeleton s ≡ Skeleton-F.Atom a → (out-Skeleton t ≡ Skeleton-F.Any) ⊎ (out-Skeleton t ≡ Skeleton-F.Atom a)
+pub over_atom : {s t : Skeleton} (a : List ℕ) → IsUnder s t → out-Skeleton s ≡ Skeleton-F.Atom a
+    → (out-Skeleton t ≡ Skeleton-F.Any) ⊎ (out-Skeleton t ≡ Skeleton-F.Atom a)
 over_atom a (same e) i = inr (ap out-Skeleton (sym e) ∙ i)
 over_atom a (any e) i = inl e
 over_atom a (integer m e f) i = absurd cc

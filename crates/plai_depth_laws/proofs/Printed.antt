@@ -35,7 +35,8 @@ module _ (k : ℕ) (tells : (s : Skeleton) → cut k s ≡ s → fits s ≡ true
   layer_tells s (Skeleton-F.Int n) e p = integer_cut n s e (integer_fits n) refl p
   layer_tells s (Skeleton-F.Atom a) e p = refl
   layer_tells s (Skeleton-F.Compound name args) e p =
-      let f : Skeleton-F.Compound name (map (cut k) args) ≡ Skeleton-F.Compound name args = sym (outs-Compound name (map (cut k) args)) ∙ ap out-Skeleton p ∙ e in
+      let f : Skeleton-F.Compound name (map (cut k) args) ≡ Skeleton-F.Compound name args =
+      sym (outs-Compound name (map (cut k) args)) ∙ ap out-Skeleton p ∙ e in
       let g : map (cut k) args ≡ args = cc in
       all_tell args g
 

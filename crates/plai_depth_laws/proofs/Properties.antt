@@ -1,5 +1,37 @@
 -- What is described has the properties, what is entailed holds, and what is excluded doesn't.
-use Rattle.std.proofs.Common.{◌≡◌, ◌⊎◌, inl, inr, ℕ, zero, suc, ◌-◌, ◌≤◌, ◌<◌, ℤ, Bool, true, false, ◌||◌, ◌&&◌, not, List, [], ◌∷◌, length, map, get_or, replicate, refl, sym, ap, ◌∙◌, arith, rules, subst}
+use Rattle.std.proofs.Common.{
+  ◌≡◌,
+  ◌⊎◌,
+  inl,
+  inr,
+  ℕ,
+  zero,
+  suc,
+  ◌-◌,
+  ◌≤◌,
+  ◌<◌,
+  ℤ,
+  Bool,
+  true,
+  false,
+  ◌||◌,
+  ◌&&◌,
+  not,
+  List,
+  [],
+  ◌∷◌,
+  length,
+  map,
+  get_or,
+  replicate,
+  refl,
+  sym,
+  ap,
+  ◌∙◌,
+  arith,
+  rules,
+  subst,
+}
 use Rattle.std.specs.List.{list_all, list_any, All, AllByRecursion}
 use Rattle.std.proofs.lemmas.List.{get_or-map}
 use Rattle.std.proofs.lemmas.List.Elements.{recursion_from_All}
@@ -21,7 +53,18 @@ use Rattle.plai_terms.specs.declared.skeleton.Skeleton.TheVariants.{outs-Any, ou
 use Rattle.plai_domain.specs.Instances.{IsVar, IsInt, argument, has_property, has_properties, speaks_within}
 use Rattle.plai_depth_laws.specs.Moves.{skeleton_at}
 use Rattle.plai_depth_laws.specs.Order.{IsUnder, AreUnder}
-use Rattle.plai_depth_laws.specs.Operations.{is_any_layer, is_any, is_integer_layer, is_integer, has_any_step, has_any, describe_of, argument_of, entails_of, excludes_of}
+use Rattle.plai_depth_laws.specs.Operations.{
+  is_any_layer,
+  is_any,
+  is_integer_layer,
+  is_integer,
+  has_any_step,
+  has_any,
+  describe_of,
+  argument_of,
+  entails_of,
+  excludes_of,
+}
 use Rattle.plai_depth_laws.specs.Described.{DescribedBy, any, integer, number, atom, compound, AllDescribedBy, none, more}
 use Rattle.plai_depth_laws.proofs.Moves.{under_set, pull-Int}
 use Rattle.plai_depth_laws.proofs.Described.{shape}
@@ -39,7 +82,8 @@ module _ (ts : List Term) where
   at_shape : (i : ℕ) → (1 ≤ i) × (i ≤ length ts) → skeleton_at (map shape ts) (i - 1) ≡ shape (argument ts i)
   at_shape i w = let l : i - 1 < length ts = omega (arith, w.0, w.1) in get_or-map shape ts (i - 1) (Var 0) Any l
 
-  under_describe : (pre : List Prop) → AllByRecursion (speaks_within (length ts)) pre → AllByRecursion (has_property ts) pre → AreUnder (map shape ts) (describe_of (length ts) pre)
+  under_describe : (pre : List Prop) → AllByRecursion (speaks_within (length ts)) pre → AllByRecursion (has_property ts) pre
+      → AreUnder (map shape ts) (describe_of (length ts) pre)
   under_describe [] w h = all_any ts
   under_describe (property.Ground i ∷ pre) w h = under_describe pre w.1 h.1
   under_describe (property.Var i ∷ pre) w h = under_describe pre w.1 h.1
@@ -83,7 +127,8 @@ mutual
       let i : t ≡ Compound name ts = sym (roll-out-Term t) ∙ ap roll-Term f ∙ rolls-Compound name ts in
       ap is_ground i ∙ is_ground-Compound name ts ∙ all_ground ps (sym (has_any-layer s (Skeleton-F.Compound name ss) e) ∙ h)
 
-  all_ground : {ss : List Skeleton} {ts : List Term} → AllDescribedBy ss ts → list_any (λ b. b) (map has_any ss) ≡ false → list_all (λ b. b) (map is_ground ts) ≡ true
+  all_ground : {ss : List Skeleton} {ts : List Term} → AllDescribedBy ss ts → list_any (λ b. b) (map has_any ss) ≡ false
+      → list_all (λ b. b) (map is_ground ts) ≡ true
   all_ground none h = refl
   all_ground (more {s} {t} {ss} {ts} p ps) h =
       let k = none_of (has_any s) (list_any (λ b. b) (map has_any ss)) h in

@@ -47,7 +47,8 @@ to_any s t (Skeleton-F.Compound name ss) e f =
     let less : rank t < rank s = omega arith in
     inr less
 
-compounds_fall : (s t : Skeleton) (name : List ℕ) (ss ts : List Skeleton) → out-Skeleton s ≡ Skeleton-F.Compound name ss → out-Skeleton t ≡ Skeleton-F.Compound name ts
+compounds_fall : (s t : Skeleton) (name : List ℕ) (ss ts : List Skeleton) → out-Skeleton s ≡ Skeleton-F.Compound name ss
+    → out-Skeleton t ≡ Skeleton-F.Compound name ts
     → (ss ≡ ts) ⊎ (rank_of ts < rank_of ss) → Falls s t
 compounds_fall s t name ss ts e f (inl h) = inl (is-Compound s name ss e ∙ ap (Compound name) h ∙ sym (is-Compound t name ts f))
 compounds_fall s t name ss ts e f (inr h) =
@@ -59,10 +60,13 @@ compounds_fall s t name ss ts e f (inr h) =
 rank_of-more : (s : Skeleton) (ss : List Skeleton) → rank_of (s ∷ ss) ≡ rank s + rank_of ss
 rank_of-more s ss = refl
 
-more_fall : (s t : Skeleton) (ss ts : List Skeleton) → Falls s t → (ss ≡ ts) ⊎ (rank_of ts < rank_of ss) → (◌≡◌ {A = List Skeleton} (s ∷ ss) (t ∷ ts)) ⊎ (rank_of (t ∷ ts) < rank_of (s ∷ ss))
+more_fall : (s t : Skeleton) (ss ts : List Skeleton) → Falls s t → (ss ≡ ts) ⊎ (rank_of ts < rank_of ss)
+    → (◌≡◌ {A = List Skeleton} (s ∷ ss) (t ∷ ts)) ⊎ (rank_of (t ∷ ts) < rank_of (s ∷ ss))
 more_fall s t ss ts (inl a) (inl b) = inl (λ i. a i ∷ b i)
-more_fall s t ss ts (inl a) (inr b) = let e = ap rank a in let less : rank_of (t ∷ ts) < rank_of (s ∷ ss) = omega (arith, rank_of-more s ss, rank_of-more t ts) in inr less
-more_fall s t ss ts (inr a) (inl b) = let e = ap rank_of b in let less : rank_of (t ∷ ts) < rank_of (s ∷ ss) = omega (arith, rank_of-more s ss, rank_of-more t ts) in inr less
+more_fall s t ss ts (inl a) (inr b) = let e = ap rank a in let less : rank_of (t ∷ ts) < rank_of (s ∷ ss) =
+    omega (arith, rank_of-more s ss, rank_of-more t ts) in inr less
+more_fall s t ss ts (inr a) (inl b) = let e = ap rank_of b in let less : rank_of (t ∷ ts) < rank_of (s ∷ ss) =
+    omega (arith, rank_of-more s ss, rank_of-more t ts) in inr less
 more_fall s t ss ts (inr a) (inr b) = let less : rank_of (t ∷ ts) < rank_of (s ∷ ss) = omega (arith, rank_of-more s ss, rank_of-more t ts) in inr less
 
 mutual

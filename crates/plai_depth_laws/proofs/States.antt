@@ -1,5 +1,35 @@
 -- The order of lists of cut skeletons, and that each operation is monotone.
-use Rattle.std.proofs.Common.{◌≡◌, ℕ, zero, suc, ◌-◌, ◌≤◌, ◌<◌, Bool, true, false, ◌&&◌, cond, List, [], ◌∷◌, map, length, get_or, set, replicate, Option, Some, None, refl, sym, ap, ◌∙◌, subst, arith}
+use Rattle.std.proofs.Common.{
+  ◌≡◌,
+  ℕ,
+  zero,
+  suc,
+  ◌-◌,
+  ◌≤◌,
+  ◌<◌,
+  Bool,
+  true,
+  false,
+  ◌&&◌,
+  cond,
+  List,
+  [],
+  ◌∷◌,
+  map,
+  length,
+  get_or,
+  set,
+  replicate,
+  Option,
+  Some,
+  None,
+  refl,
+  sym,
+  ap,
+  ◌∙◌,
+  subst,
+  arith,
+}
 use Rattle.std.specs.Option.{option_map, option_and_then}
 use Rattle.std.proofs.lemmas.List.{length-map, length-set, length-replicate}
 use Rattle.std.proofs.lemmas.Bool.{and_parts}
@@ -91,7 +121,8 @@ module _ (k limit : ℕ) (terms : List Term) (below : all_below limit terms ≡ 
     cut = pushes_cut k limit terms below xs (sym c.count) ss ss' d.count c.cut d.cut e;
   }
 
-  pub push_order : {xs ys ss ts : List Skeleton} → LeqCut k (length terms) xs ys → LeqCut k limit ss ts → Grows k limit (push_all terms xs ss) (push_all terms ys ts)
+  pub push_order : {xs ys ss ts : List Skeleton} → LeqCut k (length terms) xs ys → LeqCut k limit ss ts
+      → Grows k limit (push_all terms xs ss) (push_all terms ys ts)
   push_order {xs} {ys} {ss} {ts} h g ss' e =
       let (under, fit) = pushes_lower limit terms below xs (sym h.first.count) ss ss' g.first.count e in
       let (ts', f, up) = pushes_greatest ss' terms ys ts (AreUnder-trans under g.under) (AreUnder-trans fit h.under) in
@@ -104,12 +135,14 @@ any_cut k (suc n) = let a = cut-Any k in let b = any_cut k n in λ i. a i ∷ b 
 pub value_any : (k n : ℕ) → AreCut k n (replicate n Any)
 value_any k n = record { count = length-replicate n Any; cut = any_cut k n }
 
-pub enter_order : (k v : ℕ) (head : List Term) → all_below v head ≡ true → {xs ys : List Skeleton} → LeqCut k (length head) xs ys → Grows k v (enter_of head v xs) (enter_of head v ys)
+pub enter_order : (k v : ℕ) (head : List Term) → all_below v head ≡ true → {xs ys : List Skeleton} → LeqCut k (length head) xs ys
+    → Grows k v (enter_of head v xs) (enter_of head v ys)
 enter_order k v head below h = push_order k v head below h (LeqCut-refl (value_any k v))
 
 -- ---- actions
 
-pub argument_below : (limit : ℕ) (args : List Term) (i : ℕ) → all_below limit args ≡ true → i < length args → has_variables_below limit (get_or args i (Var 0)) ≡ true
+pub argument_below : (limit : ℕ) (args : List Term) (i : ℕ) → all_below limit args ≡ true → i < length args
+    → has_variables_below limit (get_or args i (Var 0)) ≡ true
 argument_below limit [] i w l = absurd (omega (arith, l))
 argument_below limit (t ∷ ts) zero w l = (and_parts (has_variables_below limit t) (all_below limit ts) w).0
 argument_below limit (t ∷ ts) (suc i) w l = argument_below limit ts i (and_parts (has_variables_below limit t) (all_below limit ts) w).1 (omega (arith, l))
@@ -147,17 +180,20 @@ unified_parts k t u ss r e =
     let (p, h, is) = mapped_some (map (cut k)) (push_all (t ∷ u ∷ []) (m ∷ m ∷ []) ss) r g in
     record { met = m; met_is = f; pushed = p; pushed_is = h; is = is }
 
-pub unified_of : (k : ℕ) (t u : Term) (ss : List Skeleton) (m : Skeleton) (p : List Skeleton) → meet (pull ss t) (pull ss u) ≡ Some m → push_all (t ∷ u ∷ []) (m ∷ m ∷ []) ss ≡ Some p
+pub unified_of : (k : ℕ) (t u : Term) (ss : List Skeleton) (m : Skeleton) (p : List Skeleton) → meet (pull ss t) (pull ss u) ≡ Some m
+    → push_all (t ∷ u ∷ []) (m ∷ m ∷ []) ss ≡ Some p
     → unify_of k t u ss ≡ Some (map (cut k) p)
 unified_of k t u ss m p e f =
     ap (option_and_then (λ m. option_map (map (cut k)) (push_all (t ∷ u ∷ []) (m ∷ m ∷ []) ss))) e ∙ ap (option_map (map (cut k))) f
 
 -- Skeletons below, under which both terms lie below both pulls, lie below what the action leaves.
-pub unify_greatest : (k : ℕ) (t u : Term) (rs ss : List Skeleton) → AreUnder rs ss → (m : Skeleton) → IsUnder m (pull ss t) → IsUnder m (pull ss u) → IsUnder (pull rs t) m → IsUnder (pull rs u) m
+pub unify_greatest : (k : ℕ) (t u : Term) (rs ss : List Skeleton) → AreUnder rs ss → (m : Skeleton) → IsUnder m (pull ss t) → IsUnder m (pull ss u)
+    → IsUnder (pull rs t) m → IsUnder (pull rs u) m
     → (r : List Skeleton) × (p : List Skeleton) × (unify_of k t u ss ≡ Some r) × (r ≡ map (cut k) p) × AreUnder rs p
 unify_greatest k t u rs ss h m a b c d =
     let (met, e, up) = meet_greatest a b in
-    let (p, f, g) = pushes_greatest rs (t ∷ u ∷ []) (met ∷ met ∷ []) ss h (AreUnder.more (IsUnder-trans c up) (AreUnder.more (IsUnder-trans d up) AreUnder.none)) in
+    let (p, f, g) = pushes_greatest rs (t ∷ u ∷ []) (met ∷ met ∷ []) ss h
+    (AreUnder.more (IsUnder-trans c up) (AreUnder.more (IsUnder-trans d up) AreUnder.none)) in
     (map (cut k) p, p, unified_of k t u ss met p e f, refl, g)
 
 module _ (k limit : ℕ) (t u : Term) (wt : has_variables_below limit t ≡ true) (wu : has_variables_below limit u ≡ true) where

@@ -11,7 +11,22 @@ use Rattle.plai_terms.proofs.Skeletons.{arguments, induction}
 use Rattle.plai_terms.proofs.Same.{both}
 use Rattle.plai_terms.proofs.Reading.{first_of, integers_apart}
 use Rattle.plai_terms.proofs.AtomTexts.{atom_first, atoms_apart}
-use Rattle.plai_depth_laws.proofs.Names.{ends, ends_atom, ends_number, ends_bracket, is_number, atom_is, constant_is, integer_is, short_integer, integer_first, constant_first, constants_apart, constant_atom, constant_reserved}
+use Rattle.plai_depth_laws.proofs.Names.{
+  ends,
+  ends_atom,
+  ends_number,
+  ends_bracket,
+  is_number,
+  atom_is,
+  constant_is,
+  integer_is,
+  short_integer,
+  integer_first,
+  constant_first,
+  constants_apart,
+  constant_atom,
+  constant_reserved,
+}
 
 -- ---- integers within 128 bits
 
@@ -52,7 +67,8 @@ written (Skeleton-F.Int n) us = signed_decimal n ++ us
 written (Skeleton-F.Atom a) us = constant_text a ++ us
 written (Skeleton-F.Compound name args) us = atom_text name ++ 40 ∷ (join_with_byte 44 (map skeleton_text args) ++ 41 ∷ us)
 
-text-Compound : (name : List ℕ) (args : List Skeleton) → skeleton_text (roll-Skeleton (Skeleton-F.Compound name args)) ≡ atom_text name ++ codes "(" ++ join_with_byte 44 (map skeleton_text args) ++ codes ")"
+text-Compound : (name : List ℕ) (args : List Skeleton)
+    → skeleton_text (roll-Skeleton (Skeleton-F.Compound name args)) ≡ atom_text name ++ codes "(" ++ join_with_byte 44 (map skeleton_text args) ++ codes ")"
 text-Compound name args = search (rules, the_lemmas)
 
 regroup : (a b us : List ℕ) → (((a ++ 40 ∷ []) ++ b) ++ 41 ∷ []) ++ us ≡ a ++ 40 ∷ (b ++ 41 ∷ us)
@@ -61,9 +77,12 @@ regroup a b us = simp append_assoc
 text-roll : (x : Skeleton-F Skeleton) (us : List ℕ) → skeleton_text (roll-Skeleton x) ++ us ≡ written x us
 text-roll Skeleton-F.Any us = let e : skeleton_text (roll-Skeleton Skeleton-F.Any) ≡ codes "any" = search (rules, the_lemmas) in ap (λ z. z ++ us) e
 text-roll Skeleton-F.Integer us = let e : skeleton_text (roll-Skeleton Skeleton-F.Integer) ≡ codes "int" = search (rules, the_lemmas) in ap (λ z. z ++ us) e
-text-roll (Skeleton-F.Int n) us = let e : skeleton_text (roll-Skeleton (Skeleton-F.Int n)) ≡ signed_decimal n = search (rules, the_lemmas) in ap (λ z. z ++ us) e
-text-roll (Skeleton-F.Atom a) us = let e : skeleton_text (roll-Skeleton (Skeleton-F.Atom a)) ≡ constant_text a = search (rules, the_lemmas) in ap (λ z. z ++ us) e
-text-roll (Skeleton-F.Compound name args) us = ap (λ z. z ++ us) (text-Compound name args) ∙ regroup (atom_text name) (join_with_byte 44 (map skeleton_text args)) us
+text-roll (Skeleton-F.Int n) us = let e : skeleton_text (roll-Skeleton (Skeleton-F.Int n)) ≡ signed_decimal n = search (rules, the_lemmas) in
+    ap (λ z. z ++ us) e
+text-roll (Skeleton-F.Atom a) us = let e : skeleton_text (roll-Skeleton (Skeleton-F.Atom a)) ≡ constant_text a = search (rules, the_lemmas) in
+    ap (λ z. z ++ us) e
+text-roll (Skeleton-F.Compound name args) us =
+    ap (λ z. z ++ us) (text-Compound name args) ∙ regroup (atom_text name) (join_with_byte 44 (map skeleton_text args)) us
 
 abbrev is_int : Skeleton-F Skeleton → Bool
 is_int (Skeleton-F.Int n) = true
@@ -93,14 +112,16 @@ skeleton_first t us f e =
 -- ---- the arguments
 
 abbrev IsApart : Skeleton → Type 0
-IsApart s = (t : Skeleton) (us vs : List ℕ) → fits s ≡ true → fits t ≡ true → ends us ≡ true → ends vs ≡ true → skeleton_text s ++ us ≡ skeleton_text t ++ vs → (s ≡ t) × (us ≡ vs)
+IsApart s = (t : Skeleton) (us vs : List ℕ) → fits s ≡ true → fits t ≡ true → ends us ≡ true → ends vs ≡ true → skeleton_text s ++ us ≡ skeleton_text t ++ vs
+    → (s ≡ t) × (us ≡ vs)
 
 -- what follows the first argument
 abbrev further : List Skeleton → List ℕ → List ℕ
 further [] us = 41 ∷ us
 further (a ∷ args) us = 44 ∷ (join_with_byte 44 (map skeleton_text (a ∷ args)) ++ 41 ∷ us)
 
-join-further : (a : Skeleton) (args : List Skeleton) (us : List ℕ) → join_with_byte 44 (map skeleton_text (a ∷ args)) ++ 41 ∷ us ≡ skeleton_text a ++ further args us
+join-further : (a : Skeleton) (args : List Skeleton) (us : List ℕ)
+    → join_with_byte 44 (map skeleton_text (a ∷ args)) ++ 41 ∷ us ≡ skeleton_text a ++ further args us
 join-further a [] us = refl
 join-further a (b ∷ args) us = append_assoc (skeleton_text a) (44 ∷ join_with_byte 44 (map skeleton_text (b ∷ args))) (41 ∷ us)
 
@@ -109,7 +130,8 @@ further_ends [] us = refl
 further_ends (a ∷ args) us = refl
 
 first_apart : (a : Skeleton) (as' : List Skeleton) (b : Skeleton) (bs : List Skeleton) (us vs : List ℕ) → IsApart a → fits a ≡ true → fits b ≡ true
-    → join_with_byte 44 (map skeleton_text (a ∷ as')) ++ 41 ∷ us ≡ join_with_byte 44 (map skeleton_text (b ∷ bs)) ++ 41 ∷ vs → (a ≡ b) × (further as' us ≡ further bs vs)
+    → join_with_byte 44 (map skeleton_text (a ∷ as')) ++ 41 ∷ us ≡ join_with_byte 44 (map skeleton_text (b ∷ bs)) ++ 41 ∷ vs
+    → (a ≡ b) × (further as' us ≡ further bs vs)
 first_apart a as' b bs us vs h f g e =
     h b (further as' us) (further bs vs) f g (further_ends as' us) (further_ends bs vs) (sym (join-further a as' us) ∙ e ∙ join-further b bs vs)
 
@@ -153,7 +175,8 @@ module _ (us vs : List ℕ) (s : ends us ≡ true) (t : ends vs ≡ true) where
   constant_int : (a : List ℕ) → constant_text a ++ us ≡ codes "int" ++ vs → ⊥
   constant_int a e = constant_reserved a (codes "int") us vs refl refl (ends_atom us s) (ends_atom vs t) e
 
-layers_apart : (x y : Skeleton-F Skeleton) (us vs : List ℕ) → AllByRecursion IsApart (arguments x) → layer_fits x ≡ true → layer_fits y ≡ true → ends us ≡ true → ends vs ≡ true
+layers_apart : (x y : Skeleton-F Skeleton) (us vs : List ℕ) → AllByRecursion IsApart (arguments x) → layer_fits x ≡ true → layer_fits y ≡ true
+    → ends us ≡ true → ends vs ≡ true
     → written x us ≡ written y vs → is_int x ≡ is_int y → (x ≡ y) × (us ≡ vs)
 layers_apart Skeleton-F.Any Skeleton-F.Any us vs h f g s t e k = (refl, ap (drop 3) e)
 layers_apart Skeleton-F.Integer Skeleton-F.Integer us vs h f g s t e k = (refl, ap (drop 3) e)
@@ -164,7 +187,8 @@ layers_apart (Skeleton-F.Atom a) (Skeleton-F.Atom b) us vs h f g s t e k =
     let (p, q) = constants_apart a b us vs (ends_atom us s) (ends_atom vs t) e in
     (ap Skeleton-F.Atom p, q)
 layers_apart (Skeleton-F.Compound n as') (Skeleton-F.Compound m bs) us vs h f g s t e k =
-    let (p, q) = atoms_apart n m (40 ∷ (join_with_byte 44 (map skeleton_text as') ++ 41 ∷ us)) (40 ∷ (join_with_byte 44 (map skeleton_text bs) ++ 41 ∷ vs)) refl refl e in
+    let (p, q) = atoms_apart n m (40 ∷ (join_with_byte 44 (map skeleton_text as') ++ 41 ∷ us)) (40 ∷ (join_with_byte 44 (map skeleton_text bs) ++ 41 ∷ vs))
+    refl refl e in
     let (l, u) = args_apart as' bs us vs h f g (ap (drop 1) q) in
     (λ i. Skeleton-F.Compound (p i) (l i), u)
 layers_apart Skeleton-F.Any Skeleton-F.Integer us vs h f g s t e k = let n : ◌≡◌ {A = ℕ} 97 105 = ap first_of e in absurd (omega (arith, n))
@@ -173,12 +197,18 @@ layers_apart Skeleton-F.Any (Skeleton-F.Atom b) us vs h f g s t e k = absurd (co
 layers_apart (Skeleton-F.Atom a) Skeleton-F.Any us vs h f g s t e k = absurd (constant_any us vs s t a e)
 layers_apart Skeleton-F.Integer (Skeleton-F.Atom b) us vs h f g s t e k = absurd (constant_int vs us t s b (sym e))
 layers_apart (Skeleton-F.Atom a) Skeleton-F.Integer us vs h f g s t e k = absurd (constant_int us vs s t a e)
-layers_apart Skeleton-F.Any (Skeleton-F.Compound m bs) us vs h f g s t e k = absurd (any_compound us vs s t (codes "any") m (join_with_byte 44 (map skeleton_text bs) ++ 41 ∷ vs) e)
-layers_apart (Skeleton-F.Compound n as') Skeleton-F.Any us vs h f g s t e k = absurd (any_compound vs us t s (codes "any") n (join_with_byte 44 (map skeleton_text as') ++ 41 ∷ us) (sym e))
-layers_apart Skeleton-F.Integer (Skeleton-F.Compound m bs) us vs h f g s t e k = absurd (any_compound us vs s t (codes "int") m (join_with_byte 44 (map skeleton_text bs) ++ 41 ∷ vs) e)
-layers_apart (Skeleton-F.Compound n as') Skeleton-F.Integer us vs h f g s t e k = absurd (any_compound vs us t s (codes "int") n (join_with_byte 44 (map skeleton_text as') ++ 41 ∷ us) (sym e))
-layers_apart (Skeleton-F.Atom a) (Skeleton-F.Compound m bs) us vs h f g s t e k = absurd (constant_compound us vs s t a m (join_with_byte 44 (map skeleton_text bs) ++ 41 ∷ vs) e)
-layers_apart (Skeleton-F.Compound n as') (Skeleton-F.Atom b) us vs h f g s t e k = absurd (constant_compound vs us t s b n (join_with_byte 44 (map skeleton_text as') ++ 41 ∷ us) (sym e))
+layers_apart Skeleton-F.Any (Skeleton-F.Compound m bs) us vs h f g s t e k =
+    absurd (any_compound us vs s t (codes "any") m (join_with_byte 44 (map skeleton_text bs) ++ 41 ∷ vs) e)
+layers_apart (Skeleton-F.Compound n as') Skeleton-F.Any us vs h f g s t e k =
+    absurd (any_compound vs us t s (codes "any") n (join_with_byte 44 (map skeleton_text as') ++ 41 ∷ us) (sym e))
+layers_apart Skeleton-F.Integer (Skeleton-F.Compound m bs) us vs h f g s t e k =
+    absurd (any_compound us vs s t (codes "int") m (join_with_byte 44 (map skeleton_text bs) ++ 41 ∷ vs) e)
+layers_apart (Skeleton-F.Compound n as') Skeleton-F.Integer us vs h f g s t e k =
+    absurd (any_compound vs us t s (codes "int") n (join_with_byte 44 (map skeleton_text as') ++ 41 ∷ us) (sym e))
+layers_apart (Skeleton-F.Atom a) (Skeleton-F.Compound m bs) us vs h f g s t e k =
+    absurd (constant_compound us vs s t a m (join_with_byte 44 (map skeleton_text bs) ++ 41 ∷ vs) e)
+layers_apart (Skeleton-F.Compound n as') (Skeleton-F.Atom b) us vs h f g s t e k =
+    absurd (constant_compound vs us t s b n (join_with_byte 44 (map skeleton_text as') ++ 41 ∷ us) (sym e))
 layers_apart (Skeleton-F.Int m) y us vs h f g s t e k = absurd cc
 layers_apart x (Skeleton-F.Int n) us vs h f g s t e k = absurd cc
 

@@ -39,14 +39,16 @@ same_up_to R o x h e = subst (λ z. UpTo R z z) e h
 
 -- a builtin's actions have numbers of its arguments
 pub actions_fit : (name : List ℕ) (arity : ℕ) (actions : List Action) → actions ≡ actions_of name arity → All (acts_within arity) actions
-actions_fit name arity actions e = subst (λ xs. All (acts_within arity) xs) (sym e) (all_in (acts_within arity) (actions_of name arity) (λ x i. actions_within name arity x i))
+actions_fit name arity actions e = subst (λ xs. All (acts_within arity) xs) (sym e)
+    (all_in (acts_within arity) (actions_of name arity) (λ x i. actions_within name arity x i))
 
 -- the literals of a well formed clause
 pub literals_of : (clause : Clause) → IsWellFormedClause clause → (head : List Term) (body : List Literal) → head ≡ clause.head → body ≡ clause.body
     → All (IsLiteral (length head) clause.variables) body
 literals_of clause good head body e f =
     subst (λ h. All (IsLiteral (length h) clause.variables) body) (sym e)
-    (subst (λ b. All (IsLiteral (length clause.head) clause.variables) b) (sym f) (all_in (IsLiteral (length clause.head) clause.variables) clause.body good.body))
+    (subst (λ b. All (IsLiteral (length clause.head) clause.variables) b) (sym f)
+    (all_in (IsLiteral (length clause.head) clause.variables) clause.body good.body))
 
 module _ (p : PlainDomain) (laws : IsLawful p) (n v : ℕ) where
   abbrev There : StateView → Type 0
@@ -62,10 +64,12 @@ module _ (p : PlainDomain) (laws : IsLawful p) (n v : ℕ) where
   in_numbers P s h k = subst (λ m. P m s.variables) (sym (laws.shaped.arity n v s s h)) (subst (λ m. P n m) (sym (laws.shaped.variables n v s s h)) k)
 
   module _ (args : List Term) (good : AreArguments n v args) where
-    pub refined_there : (action : Action) (s next : StateView) → acts_within (length args) action → There s → (p.refine s args action).value ≡ Some next → There next
+    pub refined_there : (action : Action) (s next : StateView) → acts_within (length args) action → There s → (p.refine s args action).value ≡ Some next
+        → There next
     refined_there action s next w h e = same_up_to (p.Below n v) _ next (laws.monotone.refine n v args action s s good w h) e
 
-    act_there : (number : ℕ) (actions : List Action) → ((x : Action) → IsIn x actions → acts_within (length args) x) → (o : Option StateView) → UpTo (p.Below n v) o o
+    act_there : (number : ℕ) (actions : List Action) → ((x : Action) → IsIn x actions → acts_within (length args) x) → (o : Option StateView)
+        → UpTo (p.Below n v) o o
         → (next : StateView) → (act p number args actions o).state ≡ Some next → There next
     act_there number [] w o h next e = same_up_to (p.Below n v) o next h e
     act_there number (x ∷ actions) w None h next e = absurd (no_some next e)
@@ -76,7 +80,8 @@ module _ (p : PlainDomain) (laws : IsLawful p) (n v : ℕ) where
     called_value s h = laws.monotone.call n v args s s good h
 
     -- an answer for the call has as many arguments
-    pub answer_fits : (source : Source) → AnswersFit p source → (pred : PredKey) → pred.arity ≡ length args → (s : StateView) → There s → (same : PredKey) (call answer : Abs)
+    pub answer_fits : (source : Source) → AnswersFit p source → (pred : PredKey) → pred.arity ≡ length args → (s : StateView) → There s
+        → (same : PredKey) (call answer : Abs)
         → same ≡ pred → call ≡ (p.call s args).value → source (record { pred = same; call = call }) ≡ Some answer → IsValue p (length args) answer
     answer_fits source fits pred arity s h same call answer eq is told =
         let name : RowName = record { pred = same; call = call } in

@@ -137,7 +137,8 @@ well_formed = one_module_well_formed (109 ∷ []) (rule ∷ fact ∷ []) (asks_p
     (λ c. at_two IsWellFormedClause rule fact c
     (record {
       head = record { arity = refl; few = lit≤ tt; slots = lit≤ tt; below = rule_below };
-      body = λ l. at_one (IsLiteral 1 1) calls_q l (record { args = record { few = lit≤ tt; slots = lit≤ tt; below = rule_below }; target = (refl, refl, refl) });
+      body = λ l. at_one (IsLiteral 1 1) calls_q l
+          (record { args = record { few = lit≤ tt; slots = lit≤ tt; below = rule_below }; target = (refl, refl, refl) });
     })
     (record {
       head = record { arity = refl; few = lit≤ tt; slots = lit≤ tt; below = fact_below };
@@ -188,7 +189,8 @@ closed =
     record {
       distinct = ((λ r i e. by_name r i (ap (λ (x : NameOf d). x.pred) e)), ((λ r i e. i), tt));
       entries = of_entry;
-      calls = at_rows (λ r. (c : Clause) → IsIn c (g.clauses r.name.pred) → (x : NameOf d) → IsIn x (calls_of d (source_of d rows) c r.name.call) → HasName d rows x)
+      calls = at_rows (λ r. (c : Clause) → IsIn c (g.clauses r.name.pred) → (x : NameOf d) → IsIn x (calls_of d (source_of d rows) c r.name.call)
+          → HasName d rows x)
           (λ c. at_one (λ c. (x : NameOf d) → IsIn x (calls_of d (source_of d rows) c (any 1)) → HasName d rows x) rule c of_call)
           (λ c. at_one (λ c. (x : NameOf d) → IsIn x (calls_of d (source_of d rows) c (any 1)) → HasName d rows x) fact c (λ x i. absurd i));
       answers = at_rows (λ r. (c : Clause) → IsIn c (g.clauses r.name.pred) → UpTo (d.leq r.name.pred) (answer_of d (source_of d rows) c r.name.call) r.answer)
@@ -208,4 +210,5 @@ least =
       λ k v is. below_at d g (lawful_at silent silent_lawful program well_formed) rows 2
           (at_rows (λ r. UpTo (d.leq r.name.pred) r.answer (stage d g 2 r.name.pred r.name.call)) (refl, refl) (refl, refl)) k v,
     )
-    (at_rows (λ r. (k : ℕ) × Reaches d g (source_of d rows) k r.name) (0, AtEntry (inl refl)) (1, ByCall (name_of d p (any 1)) rule (AtEntry (inl refl)) (inl refl) (inl refl)))
+    (at_rows (λ r. (k : ℕ) × Reaches d g (source_of d rows) k r.name) (0, AtEntry (inl refl))
+    (1, ByCall (name_of d p (any 1)) rule (AtEntry (inl refl)) (inl refl) (inl refl)))

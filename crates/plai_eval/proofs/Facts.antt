@@ -54,7 +54,8 @@ module _ (p : PlainDomain) where
   join_is (Some a) None = refl
   join_is (Some a) (Some b) = refl
 
-  best_is : (s : Source (as_domain p)) (cs : List Clause) (v : Abs) → ((c : Clause) → IsIn c cs → c.body ≡ []) → best_of (as_domain p) s cs v ≡ facts_answer p cs v
+  best_is : (s : Source (as_domain p)) (cs : List Clause) (v : Abs) → ((c : Clause) → IsIn c cs → c.body ≡ [])
+      → best_of (as_domain p) s cs v ≡ facts_answer p cs v
   unfolding best_of
   best_is s [] v h = refl
   best_is s (c ∷ cs) v h =
@@ -87,7 +88,8 @@ module _ (p : PlainDomain) where
           record {
             ordered = in_order rows are.ordered;
             sound = λ r i. map_in
-                (λ (z : Row (as_domain p)). Reaches (as_domain p) (as_program p g) (stage (as_domain p) (as_program p g) (suc n)) (suc n) z.name × (z.answer ≡ stage (as_domain p) (as_program p g) (suc n) z.name.pred z.name.call))
+                (λ (z : Row (as_domain p)). Reaches (as_domain p) (as_program p g) (stage (as_domain p) (as_program p g) (suc n)) (suc n) z.name
+                × (z.answer ≡ stage (as_domain p) (as_program p g) (suc n) z.name.pred z.name.call))
                 (row_of p) rows r i
                 (λ q j.
                 let (e, k, is) = are.sound q j in (

@@ -33,13 +33,15 @@ act_of other (Goal l) = other
 act_of other (Do x) = x
 
 -- actions bring no call
-goal_behind : (args : List Term) (xs : List Action) (rest : List (Step Calling Acting)) (l : Calling) → IsIn (Goal l) (actions_then args xs rest) → IsIn (Goal l) rest
+goal_behind : (args : List Term) (xs : List Action) (rest : List (Step Calling Acting)) (l : Calling) → IsIn (Goal l) (actions_then args xs rest)
+    → IsIn (Goal l) rest
 goal_behind args [] rest l i = i
 goal_behind args (x ∷ xs) rest l (inl e) = cc
 goal_behind args (x ∷ xs) rest l (inr i) = goal_behind args xs rest l i
 
 -- an action among them is one of theirs or stands behind
-act_behind : (args : List Term) (xs : List Action) (rest : List (Step Calling Acting)) (x : Acting) → IsIn (Do x) (actions_then args xs rest) → ((x.args ≡ args) × IsIn x.action xs) ⊎ IsIn (Do x) rest
+act_behind : (args : List Term) (xs : List Action) (rest : List (Step Calling Acting)) (x : Acting) → IsIn (Do x) (actions_then args xs rest)
+    → ((x.args ≡ args) × IsIn x.action xs) ⊎ IsIn (Do x) rest
 act_behind args [] rest x i = inr i
 act_behind args (y ∷ ys) rest x (inl e) =
     let k : (let a : Acting = record { args = args; action = y } in a) ≡ x = ap (act_of x) e in
@@ -66,7 +68,8 @@ pub call_in : (n v : ℕ) (body : List Literal) → AreLiterals n v body → (l 
 call_in n v [] good l i = absurd i
 call_in n v (literal ∷ body) good l i = at literal.target (good literal (inl refl)).target i (call_in n v body (λ b j. good b (inr j)) l)
   where
-    at : (t : Target) → IsTargetOf literal.name (length literal.args) t → IsIn (Goal l) (literal_then literal t (steps_of body)) → (IsIn (Goal l) (steps_of body) → IsCall n v l) → IsCall n v l
+    at : (t : Target) → IsTargetOf literal.name (length literal.args) t → IsIn (Goal l) (literal_then literal t (steps_of body))
+        → (IsIn (Goal l) (steps_of body) → IsCall n v l) → IsCall n v l
     at (Pred k) (no', is, arity) (inl e) next = subst (IsCall n v) (ap (goal_of l) e) (record { args = (good literal (inl refl)).args; arity = sym arity })
     at (Pred k) (no', is, arity) (inr j) next = next j
     at Builtin yes' j next = next (goal_behind literal.args (actions_of literal.name (length literal.args)) (steps_of body) l j)
@@ -81,7 +84,8 @@ act_in n v (literal ∷ body) good x i = at literal.target i (act_in n v body (�
       within = subst (λ (ts : List Term). acts_within (length ts) x.action) (sym e) (actions_within literal.name (length literal.args) x.action j);
     }
 
-    either : ((x.args ≡ literal.args) × IsIn x.action (actions_of literal.name (length literal.args))) ⊎ IsIn (Do x) (steps_of body) → (IsIn (Do x) (steps_of body) → IsAct n v x) → IsAct n v x
+    either : ((x.args ≡ literal.args) × IsIn x.action (actions_of literal.name (length literal.args))) ⊎ IsIn (Do x) (steps_of body)
+        → (IsIn (Do x) (steps_of body) → IsAct n v x) → IsAct n v x
     either (inl (e, j)) next = own e j
     either (inr j) next = next j
 
@@ -119,8 +123,10 @@ module _ (p : PlainDomain) (laws : IsLawful p) (g : ProgramView) (good : IsWellF
             (laws.monotone.call (length c.head) c.variables l.args s t (calls_well k c l i j).args h);
         back = λ k c l s t a b i j h le. laws.monotone.back (length c.head) c.variables l.args s t a b (calls_well k c l i j).args h
             (subst (λ n. p.Leq n a b) (sym (calls_well k c l i j).arity) le);
-        refine = λ k c x s t i j h. laws.monotone.refine (length c.head) c.variables x.args x.action s t (acts_well k c x i j).args (acts_well k c x i j).within h;
-        entries = λ k v i. map_in (λ (x : Name PredKey Abs). p.Leq x.pred.arity x.call x.call) (λ e. record { pred = e.pred; call = p.describe e.pred.arity e.pre }) (entries_of g) (record { pred = k; call = v }) i
+        refine = λ k c x s t i j h. laws.monotone.refine (length c.head) c.variables x.args x.action s t (acts_well k c x i j).args
+            (acts_well k c x i j).within h;
+        entries = λ k v i. map_in (λ (x : Name PredKey Abs). p.Leq x.pred.arity x.call x.call)
+            (λ e. record { pred = e.pred; call = p.describe e.pred.arity e.pre }) (entries_of g) (record { pred = k; call = v }) i
             (λ e j. laws.ordered.describe e.pred.arity e.pre (good.entries e j).few (good.entries e j).pre);
         same_true = λ x y e. (let q = same_name-true (row_name x) (row_name y) e in λ i. record { pred = (q i).pred; call = (q i).call });
         same_refl = λ x. same_name-refl (row_name x);
@@ -134,5 +140,6 @@ module _ (p : PlainDomain) (laws : IsLawful p) (g : ProgramView) (good : IsWellF
         call = λ k c l s t i j h. laws.forms_more.call (length c.head) c.variables l.args s t (calls_well k c l i j).args h;
         back = λ k c l s t a b i j h le. laws.forms_more.back (length c.head) c.variables l.args s t a b (calls_well k c l i j).args h
             (subst (λ n. p.Leq n a b) (sym (calls_well k c l i j).arity) le);
-        refine = λ k c x s t i j h. laws.forms_more.refine (length c.head) c.variables x.args x.action s t (acts_well k c x i j).args (acts_well k c x i j).within h;
+        refine = λ k c x s t i j h. laws.forms_more.refine (length c.head) c.variables x.args x.action s t (acts_well k c x i j).args
+            (acts_well k c x i j).within h;
       }

@@ -37,5 +37,6 @@ module _ (p : PlainDomain) where
   -- Theorem: two least tables are equal.
   pub least_table_is_one : (g : ProgramView) (rows others : List PlainRow) → IsLeastTable p g rows → IsLeastTable p g others → rows ≡ others
   least_table_is_one g rows others a b =
-      let same : map (row_of p) rows ≡ map (row_of p) others = least_unique (as_domain p) (as_program p g) (before p) strict (map (row_of p) rows) (map (row_of p) others) a b in
+      let same : map (row_of p) rows ≡ map (row_of p) others =
+      least_unique (as_domain p) (as_program p g) (before p) strict (map (row_of p) rows) (map (row_of p) others) a b in
       sym (plain_back rows) ∙ ap (map plain_of) same ∙ plain_back others

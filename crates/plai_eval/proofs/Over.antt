@@ -71,11 +71,13 @@ back_shift (inl (inl a)) k = inl a
 back_shift (inl (inr b)) k = inr (k (inl b))
 back_shift (inr c) k = inr (k (inr c))
 
-split_has : {A B : Type 0} (P : A → Type 0) (Q : B → Type 0) (f : A → Option B) (o : Option A) → HasSome (λ x. P x ⊎ HasSome Q (f x)) o → HasSome P o ⊎ HasSome Q (given None f o)
+split_has : {A B : Type 0} (P : A → Type 0) (Q : B → Type 0) (f : A → Option B) (o : Option A) → HasSome (λ x. P x ⊎ HasSome Q (f x)) o
+    → HasSome P o ⊎ HasSome Q (given None f o)
 split_has P Q f None h = absurd h
 split_has P Q f (Some x) h = h
 
-join_has : {A B : Type 0} (P : A → Type 0) (Q : B → Type 0) (f : A → Option B) (o : Option A) → HasSome P o ⊎ HasSome Q (given None f o) → HasSome (λ x. P x ⊎ HasSome Q (f x)) o
+join_has : {A B : Type 0} (P : A → Type 0) (Q : B → Type 0) (f : A → Option B) (o : Option A) → HasSome P o ⊎ HasSome Q (given None f o)
+    → HasSome (λ x. P x ⊎ HasSome Q (f x)) o
 join_has P Q f None (inl h) = absurd h
 join_has P Q f None (inr h) = absurd h
 join_has P Q f (Some x) h = h
@@ -85,7 +87,8 @@ actions_then-append args [] rest = refl
 actions_then-append args (x ∷ xs) rest = ap (λ steps. Do (record { args = args; action = x }) ∷ steps) (actions_then-append args xs rest)
 
 -- a literal's steps, and those of the literals behind it
-pub literal_then-append : (literal : Literal) (target : Target) (rest : List (Step Calling Acting)) → literal_then literal target rest ≡ literal_then literal target [] ++ rest
+pub literal_then-append : (literal : Literal) (target : Target) (rest : List (Step Calling Acting))
+    → literal_then literal target rest ≡ literal_then literal target [] ++ rest
 literal_then-append literal (Pred pred) rest = refl
 literal_then-append literal Builtin rest = actions_then-append literal.args (actions_of literal.name (length literal.args)) rest
 
@@ -97,7 +100,8 @@ module _ (p : PlainDomain) (s : Source) where
   Behind steps st = state_behind (as_domain p) (as_source p s) steps st
 
   -- along the steps of one literal
-  in_is : (number : ℕ) (steps : List (Step Calling Acting)) (st : StateView) → (IsSome (over_in p s number steps st) → Along steps st) × (Along steps st → IsSome (over_in p s number steps st))
+  in_is : (number : ℕ) (steps : List (Step Calling Acting)) (st : StateView)
+      → (IsSome (over_in p s number steps st) → Along steps st) × (Along steps st → IsSome (over_in p s number steps st))
   in_is number [] st = ((λ e. (let k : false ≡ true = e in cc)), (λ h. absurd h))
   in_is number (Do x ∷ rest) st = (
     (λ e. either (of_over_at number (p.refine st x.args x.action).sizes)
@@ -114,7 +118,8 @@ module _ (p : PlainDomain) (s : Source) where
         (of_given _ (s (record { pred = l.pred; call = (p.call st l.args).value })) k))
         (of_first _ _ e)),
     (λ h. first _ _ (either (to_over_at number (p.call st l.args).sizes)
-        (λ k. to_given _ (s (record { pred = l.pred; call = (p.call st l.args).value })) (has_map _ _ (s (record { pred = l.pred; call = (p.call st l.args).value }))
+        (λ k. to_given _ (s (record { pred = l.pred; call = (p.call st l.args).value }))
+        (has_map _ _ (s (record { pred = l.pred; call = (p.call st l.args).value }))
         (λ answer m. first _ _ (either (to_over_at number (p.back st l.args answer).sizes)
         (λ n. to_given _ (p.back st l.args answer).value (has_map _ _ (p.back st l.args answer).value (λ next. (in_is number rest next).1) n)) m)) k)) h)),
   )
@@ -127,7 +132,8 @@ module _ (p : PlainDomain) (s : Source) where
       shift h (λ k. split_has (Along rest) (Along ys) (Behind rest) (p.refine st x.args x.action).value
       (has_map _ _ (p.refine st x.args x.action).value (λ next. of_parts rest ys next) k))
   of_parts (Goal l ∷ rest) ys st h =
-      shift h (λ k. split_has _ (Along ys) (λ answer. given None (Behind rest) (p.back st l.args answer).value) (s (record { pred = l.pred; call = (p.call st l.args).value }))
+      shift h (λ k. split_has _ (Along ys) (λ answer. given None (Behind rest) (p.back st l.args answer).value)
+      (s (record { pred = l.pred; call = (p.call st l.args).value }))
       (has_map _ _ (s (record { pred = l.pred; call = (p.call st l.args).value })) (λ answer m.
       shift m (λ n. split_has (Along rest) (Along ys) (Behind rest) (p.back st l.args answer).value
       (has_map _ _ (p.back st l.args answer).value (λ next. of_parts rest ys next) n))) k))
@@ -143,21 +149,26 @@ module _ (p : PlainDomain) (s : Source) where
       back_shift h (λ k. has_map _ _ (s (record { pred = l.pred; call = (p.call st l.args).value })) (λ answer m.
       back_shift m (λ n. has_map _ _ (p.back st l.args answer).value (λ next. to_parts rest ys next)
       (join_has (Along rest) (Along ys) (Behind rest) (p.back st l.args answer).value n)))
-      (join_has _ (Along ys) (λ answer. given None (Behind rest) (p.back st l.args answer).value) (s (record { pred = l.pred; call = (p.call st l.args).value })) k))
+      (join_has _ (Along ys) (λ answer. given None (Behind rest) (p.back st l.args answer).value)
+      (s (record { pred = l.pred; call = (p.call st l.args).value })) k))
 
   -- along literals
-  along_is : (number : ℕ) (literals : List Literal) (st : StateView) → (IsSome (over_along p s number literals st) → Along (steps_of literals) st) × (Along (steps_of literals) st → IsSome (over_along p s number literals st))
+  along_is : (number : ℕ) (literals : List Literal) (st : StateView)
+      → (IsSome (over_along p s number literals st) → Along (steps_of literals) st)
+      × (Along (steps_of literals) st → IsSome (over_along p s number literals st))
   along_is number [] st = ((λ e. (let k : false ≡ true = e in cc)), (λ h. absurd h))
   along_is number (literal ∷ literals) st =
       let steps : List (Step Calling Acting) = literal_then literal literal.target [] in (
         (λ e. subst (λ xs. Along xs st) (sym (literal_then-append literal literal.target (steps_of literals)))
             (to_parts (literal_then literal literal.target []) (steps_of literals) st
             (either (in_is number (literal_then literal literal.target []) st).0
-            (λ k. has_map _ _ (Behind (literal_then literal literal.target []) st) (λ next. (along_is (suc number) literals next).0) (of_given _ (Behind (literal_then literal literal.target []) st) k))
+            (λ k. has_map _ _ (Behind (literal_then literal literal.target []) st) (λ next. (along_is (suc number) literals next).0)
+            (of_given _ (Behind (literal_then literal literal.target []) st) k))
             (of_first _ _ e)))),
         (λ h. first _ _
             (either (in_is number (literal_then literal literal.target []) st).1
-            (λ k. to_given _ (Behind (literal_then literal literal.target []) st) (has_map _ _ (Behind (literal_then literal literal.target []) st) (λ next. (along_is (suc number) literals next).1) k))
+            (λ k. to_given _ (Behind (literal_then literal literal.target []) st)
+            (has_map _ _ (Behind (literal_then literal literal.target []) st) (λ next. (along_is (suc number) literals next).1) k))
             (of_parts (literal_then literal literal.target []) (steps_of literals) st
             (subst (λ xs. Along xs st) (literal_then-append literal literal.target (steps_of literals)) h)))),
       )
@@ -167,7 +178,8 @@ module _ (p : PlainDomain) (s : Source) where
   unfolding over_of
   over_is c call = (
     (λ e. either (of_over_at 0 (p.enter call c.head c.variables).sizes)
-        (λ k. has_map _ _ (p.enter call c.head c.variables).value (λ st. (along_is 1 c.body st).0) (of_given _ (p.enter call c.head c.variables).value k)) (of_first _ _ e)),
+        (λ k. has_map _ _ (p.enter call c.head c.variables).value (λ st. (along_is 1 c.body st).0) (of_given _ (p.enter call c.head c.variables).value k))
+        (of_first _ _ e)),
     (λ h. first _ _ (either (to_over_at 0 (p.enter call c.head c.variables).sizes)
         (λ k. to_given _ (p.enter call c.head c.variables).value (has_map _ _ (p.enter call c.head c.variables).value (λ st. (along_is 1 c.body st).1) k)) h)),
   )

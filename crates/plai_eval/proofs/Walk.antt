@@ -22,7 +22,8 @@ use Rattle.plai_eval.specs.Walk.{act, answered, step_at, step, walk, through}
 use Rattle.plai_eval.proofs.Over.{literal_then-append}
 
 -- after none no action counts
-pub act_none : (p : PlainDomain) (number : ℕ) (args : List Term) (actions : List Action) → act p number args actions None ≡ record { state = None; calls = []; over = None }
+pub act_none : (p : PlainDomain) (number : ℕ) (args : List Term) (actions : List Action)
+    → act p number args actions None ≡ record { state = None; calls = []; over = None }
 act_none p number args [] = refl
 act_none p number args (action ∷ actions) = refl
 
@@ -33,7 +34,8 @@ act_calls p number args (action ∷ actions) None = refl
 act_calls p number args (action ∷ actions) (Some st) = refl
 
 -- after none nothing is called
-pub walk_none : (p : PlainDomain) (source : Source) (head : List Term) (number : ℕ) (literals : List Literal) → walk p source head number literals None ≡ record { answer = None; calls = []; over = None }
+pub walk_none : (p : PlainDomain) (source : Source) (head : List Term) (number : ℕ) (literals : List Literal)
+    → walk p source head number literals None ≡ record { answer = None; calls = []; over = None }
 walk_none p source head number [] = refl
 walk_none p source head number (literal ∷ literals) = refl
 
@@ -60,7 +62,8 @@ first_none (Some x) = refl
 -- behind a literal that leads to none nothing is called
 pub walk_stops : (p : PlainDomain) (source : Source) (head : List Term) (k number : ℕ) (literals rest : List Literal) (literal : Literal) (st : StateView)
     → k ≡ number → literals ≡ literal ∷ rest → (step p source number literal st).state ≡ None
-    → walk p source head k literals (Some st) ≡ record { answer = None; calls = (step p source number literal st).calls; over = (step p source number literal st).over }
+    → walk p source head k literals (Some st)
+    ≡ record { answer = None; calls = (step p source number literal st).calls; over = (step p source number literal st).over }
 walk_stops p source head k number literals rest literal st same is stopped =
     ap (λ m. walk p source head m literals (Some st)) same
     ∙ ap (λ xs. walk p source head number xs (Some st)) is
@@ -81,7 +84,8 @@ module _ (p : PlainDomain) (source : Source) where
   Called steps st = map row_name (calls_along (as_domain p) (as_source p source) steps st)
 
   -- a builtin's actions
-  act_state : (number : ℕ) (args : List Term) (actions : List Action) (o : Option StateView) → (act p number args actions o).state ≡ given None (Behind (actions_then args actions [])) o
+  act_state : (number : ℕ) (args : List Term) (actions : List Action) (o : Option StateView)
+      → (act p number args actions o).state ≡ given None (Behind (actions_then args actions [])) o
   unfolding state_behind
   act_state number args [] o = given_some o
   act_state number args (action ∷ actions) None = refl
@@ -92,7 +96,8 @@ module _ (p : PlainDomain) (source : Source) where
   no_calls args [] st = refl
   no_calls args (action ∷ actions) st = given_all_empty _ (p.refine st args action).value (λ next. no_calls args actions next)
 
-  act_over : (number : ℕ) (args : List Term) (actions : List Action) (o : Option StateView) → (act p number args actions o).over ≡ given None (over_in p source number (actions_then args actions [])) o
+  act_over : (number : ℕ) (args : List Term) (actions : List Action) (o : Option StateView)
+      → (act p number args actions o).over ≡ given None (over_in p source number (actions_then args actions [])) o
   act_over number args [] None = refl
   act_over number args [] (Some st) = refl
   act_over number args (action ∷ actions) None = refl
@@ -108,33 +113,41 @@ module _ (p : PlainDomain) (source : Source) where
   answered_calls : (number : ℕ) (args : List Term) (st : StateView) (name : RowName) (o : Option Abs)
       → (answered p number args st name o).calls ≡ name ∷ map row_name (given [] (λ answer. given [] (λ next. []) (p.back st args answer).value) o)
   answered_calls number args st name None = refl
-  answered_calls number args st name (Some answer) = ap (λ (xs : List (Name PredKey Abs)). name ∷ map row_name xs) (sym (given_empty (p.back st args answer).value))
+  answered_calls number args st name (Some answer) =
+      ap (λ (xs : List (Name PredKey Abs)). name ∷ map row_name xs) (sym (given_empty (p.back st args answer).value))
 
   answered_over : (number : ℕ) (args : List Term) (st : StateView) (name : RowName) (o : Option Abs)
-      → (answered p number args st name o).over ≡ given None (λ answer. first_of (over_at number (p.back st args answer).sizes) (given None (λ next. None) (p.back st args answer).value)) o
+      → (answered p number args st name o).over
+      ≡ given None (λ answer. first_of (over_at number (p.back st args answer).sizes) (given None (λ next. None) (p.back st args answer).value)) o
   answered_over number args st name None = refl
   answered_over number args st name (Some answer) =
       sym (ap (first_of (over_at number (p.back st args answer).sizes)) (given_never (p.back st args answer).value) ∙ first_none _)
 
   -- a literal
-  step_state : (number : ℕ) (literal : Literal) (target : Target) (st : StateView) → (step_at p source number literal target st).state ≡ Behind (literal_then literal target []) st
+  step_state : (number : ℕ) (literal : Literal) (target : Target) (st : StateView)
+      → (step_at p source number literal target st).state ≡ Behind (literal_then literal target []) st
   unfolding state_behind
   step_state number literal (Pred pred) st =
-      answered_state number literal.args st (record { pred = pred; call = (p.call st literal.args).value }) (source (record { pred = pred; call = (p.call st literal.args).value }))
+      answered_state number literal.args st (record { pred = pred; call = (p.call st literal.args).value })
+      (source (record { pred = pred; call = (p.call st literal.args).value }))
   step_state number literal Builtin st = act_state number literal.args (actions_of literal.name (length literal.args)) (Some st)
 
-  step_calls : (number : ℕ) (literal : Literal) (target : Target) (st : StateView) → (step_at p source number literal target st).calls ≡ Called (literal_then literal target []) st
+  step_calls : (number : ℕ) (literal : Literal) (target : Target) (st : StateView)
+      → (step_at p source number literal target st).calls ≡ Called (literal_then literal target []) st
   unfolding calls_along
   step_calls number literal (Pred pred) st =
-      answered_calls number literal.args st (record { pred = pred; call = (p.call st literal.args).value }) (source (record { pred = pred; call = (p.call st literal.args).value }))
+      answered_calls number literal.args st (record { pred = pred; call = (p.call st literal.args).value })
+      (source (record { pred = pred; call = (p.call st literal.args).value }))
   step_calls number literal Builtin st =
       act_calls p number literal.args (actions_of literal.name (length literal.args)) (Some st)
       ∙ sym (ap (map row_name) (no_calls literal.args (actions_of literal.name (length literal.args)) st))
 
-  step_over : (number : ℕ) (literal : Literal) (target : Target) (st : StateView) → (step_at p source number literal target st).over ≡ over_in p source number (literal_then literal target []) st
+  step_over : (number : ℕ) (literal : Literal) (target : Target) (st : StateView)
+      → (step_at p source number literal target st).over ≡ over_in p source number (literal_then literal target []) st
   step_over number literal (Pred pred) st =
       ap (first_of (over_at number (p.call st literal.args).sizes))
-      (answered_over number literal.args st (record { pred = pred; call = (p.call st literal.args).value }) (source (record { pred = pred; call = (p.call st literal.args).value })))
+      (answered_over number literal.args st (record { pred = pred; call = (p.call st literal.args).value })
+      (source (record { pred = pred; call = (p.call st literal.args).value })))
   step_over number literal Builtin st = act_over number literal.args (actions_of literal.name (length literal.args)) (Some st)
 
   -- the literals behind
@@ -155,11 +168,13 @@ module _ (p : PlainDomain) (source : Source) where
         ∙ state_behind-append (as_domain p) (as_source p source) (literal_then literal literal.target []) (steps_of literals) st)
         ∙ nested (Behind (literal_then literal literal.target []) st))
       where
-        nested : (o : Option StateView) → given None (λ end. Some (p.exit end head)) (given None (λ next. Behind (steps_of literals) next) o) ≡ given None (Exit literals) o
+        nested : (o : Option StateView) → given None (λ end. Some (p.exit end head)) (given None (λ next. Behind (steps_of literals) next) o)
+            ≡ given None (Exit literals) o
         nested None = refl
         nested (Some next) = refl
 
-    walk_calls : (number : ℕ) (literals : List Literal) (o : Option StateView) → (walk p source head number literals o).calls ≡ given [] (Called (steps_of literals)) o
+    walk_calls : (number : ℕ) (literals : List Literal) (o : Option StateView)
+        → (walk p source head number literals o).calls ≡ given [] (Called (steps_of literals)) o
     unfolding calls_along
     walk_calls number [] None = refl
     walk_calls number [] (Some st) = refl
@@ -167,11 +182,13 @@ module _ (p : PlainDomain) (source : Source) where
     walk_calls number (literal ∷ literals) (Some st) =
         ap (λ xs. xs ++ (walk p source head (suc number) literals (step p source number literal st).state).calls) (step_calls number literal literal.target st)
         ∙ ap (λ xs. Called (literal_then literal literal.target []) st ++ xs)
-        (walk_calls (suc number) literals (step p source number literal st).state ∙ ap (given [] (Called (steps_of literals))) (step_state number literal literal.target st))
+        (walk_calls (suc number) literals (step p source number literal st).state
+        ∙ ap (given [] (Called (steps_of literals))) (step_state number literal literal.target st))
         ∙ sym (ap (map row_name)
         (ap (λ steps. calls_along (as_domain p) (as_source p source) steps st) (literal_then-append literal literal.target (steps_of literals))
         ∙ calls_along-append (as_domain p) (as_source p source) (literal_then literal literal.target []) (steps_of literals) st)
-        ∙ mapped (calls_along (as_domain p) (as_source p source) (literal_then literal literal.target []) st) (Behind (literal_then literal literal.target []) st))
+        ∙ mapped (calls_along (as_domain p) (as_source p source) (literal_then literal literal.target []) st)
+        (Behind (literal_then literal literal.target []) st))
       where
         mapped : (xs : List (Name PredKey Abs)) (o : Option StateView)
             → map row_name (xs ++ given [] (λ next. calls_along (as_domain p) (as_source p source) (steps_of literals) next) o)
@@ -179,12 +196,14 @@ module _ (p : PlainDomain) (source : Source) where
         mapped xs None = map-append row_name xs []
         mapped xs (Some next) = map-append row_name xs (calls_along (as_domain p) (as_source p source) (steps_of literals) next)
 
-    walk_over : (number : ℕ) (literals : List Literal) (o : Option StateView) → (walk p source head number literals o).over ≡ given None (over_along p source number literals) o
+    walk_over : (number : ℕ) (literals : List Literal) (o : Option StateView)
+        → (walk p source head number literals o).over ≡ given None (over_along p source number literals) o
     walk_over number [] None = refl
     walk_over number [] (Some st) = refl
     walk_over number (literal ∷ literals) None = refl
     walk_over number (literal ∷ literals) (Some st) =
-        ap (λ o. first_of o (walk p source head (suc number) literals (step p source number literal st).state).over) (step_over number literal literal.target st)
+        ap (λ o. first_of o (walk p source head (suc number) literals (step p source number literal st).state).over)
+        (step_over number literal literal.target st)
         ∙ ap (first_of (over_in p source number (literal_then literal literal.target []) st))
         (walk_over (suc number) literals (step p source number literal st).state
         ∙ ap (given None (over_along p source (suc number) literals)) (step_state number literal literal.target st))
@@ -208,4 +227,5 @@ module _ (p : PlainDomain) (source : Source) where
   pub through_over : (clause : Clause) (call : Abs) → (through p source clause call).over ≡ (evaluation p source clause call).over
   unfolding over_of
   through_over clause call =
-      ap (first_of (over_at 0 (p.enter call clause.head clause.variables).sizes)) (walk_over clause.head 1 clause.body (p.enter call clause.head clause.variables).value)
+      ap (first_of (over_at 0 (p.enter call clause.head clause.variables).sizes))
+      (walk_over clause.head 1 clause.body (p.enter call clause.head clause.variables).value)

@@ -1,5 +1,31 @@
 -- Conjunctions of several functions, and quantification of one slot of them.
-use Rattle.std.proofs.Common.{◌≡◌, ◌≢◌, ℕ, zero, suc, ◌<◌, nat_eq, IsTrue, Bool, true, false, cond, ◌&&◌, ◌||◌, List, [], ◌∷◌, ◌++◌, Option, Some, None, refl, sym, ap, ◌∙◌}
+use Rattle.std.proofs.Common.{
+  ◌≡◌,
+  ◌≢◌,
+  ℕ,
+  zero,
+  suc,
+  ◌<◌,
+  nat_eq,
+  IsTrue,
+  Bool,
+  true,
+  false,
+  cond,
+  ◌&&◌,
+  ◌||◌,
+  List,
+  [],
+  ◌∷◌,
+  ◌++◌,
+  Option,
+  Some,
+  None,
+  refl,
+  sym,
+  ap,
+  ◌∙◌,
+}
 use Rattle.std.proofs.Math.Bool.{and-true}
 use Rattle.std.proofs.lemmas.Nat.Bits.{bit_at-zero}
 use Rattle.plai_base.specs.Mask.{has_slot}
@@ -64,7 +90,8 @@ module _ (slot : ℕ) (given was left rest : List (List Node)) (f : List Node) (
       at_longer : (at : Assignment) → together longer at ≡ (together rest at && holds f at)
       at_longer at = ap (λ fs. together fs at) e ∙ together-push rest f at
 
-  pub parting_joined : (both : List Node) → ((at : Assignment) → holds both at ≡ (joined_holds joined at && holds f at)) → IsParting slot given left rest (Some both)
+  pub parting_joined : (both : List Node) → ((at : Assignment) → holds both at ≡ (joined_holds joined at && holds f at))
+      → IsParting slot given left rest (Some both)
   parting_joined both is = record {
     free = p.free;
     whole = λ at.
@@ -78,7 +105,8 @@ both_or false a b = refl
 
 module _ (mask slot : ℕ) (given rest : List (List Node)) where
   -- what is left of the functions is what they are
-  pub parted_none : (left : List (List Node)) → left ≡ [] → IsParting slot given left rest None → (at : Assignment) → together rest at ≡ some_slot mask slot (together given) at
+  pub parted_none : (left : List (List Node)) → left ≡ [] → IsParting slot given left rest None → (at : Assignment)
+      → together rest at ≡ some_slot mask slot (together given) at
   parted_none left e p at =
       some_unused (together rest) slot p.free mask at ∙ ap (λ f. some_slot mask slot f at) (λ i other. all other i)
     where
@@ -87,7 +115,8 @@ module _ (mask slot : ℕ) (given rest : List (List Node)) where
           sym (and-true (together rest at)) ∙ sym (and-true (together rest at && true))
           ∙ ap (λ fs. (together rest at && true) && together fs at) (sym e) ∙ p.whole at
 
-  pub parted_some : (left : List (List Node)) (f one : List Node) (longer : List (List Node)) → left ≡ [] → has_slot mask slot ≡ true → longer ≡ rest ++ one ∷ []
+  pub parted_some : (left : List (List Node)) (f one : List Node) (longer : List (List Node)) → left ≡ [] → has_slot mask slot ≡ true
+      → longer ≡ rest ++ one ∷ []
       → IsFunction one (λ at. holds f (with_slot at slot false) || holds f (with_slot at slot true)) → IsParting slot given left rest (Some f)
       → (at : Assignment) → together longer at ≡ some_slot mask slot (together given) at
   parted_some left f one longer e has g is p at =
@@ -122,9 +151,11 @@ quantifying_more mask left slot less given rest new lt has others old step = rec
 some_hold-empty : (n : ℕ) (f : Assignment → Bool) (at : Assignment) → some_hold 0 n f at ≡ f at
 unfolding some_hold
 some_hold-empty zero f at = refl
-some_hold-empty (suc n) f at = some_hold-empty n (some_slot 0 n f) at ∙ ap (λ b. cond (nat_eq b 1) (f (with_slot at n false) || f (with_slot at n true)) (f at)) (bit_at-zero n)
+some_hold-empty (suc n) f at = some_hold-empty n (some_slot 0 n f) at
+    ∙ ap (λ b. cond (nat_eq b 1) (f (with_slot at n false) || f (with_slot at n true)) (f at)) (bit_at-zero n)
 
-pub quantifying_done : (mask left : ℕ) (given rest : List (List Node)) (t : List Node) → left ≡ 0 → IsQuantifying mask left given rest → IsFunction t (together rest)
+pub quantifying_done : (mask left : ℕ) (given rest : List (List Node)) (t : List Node) → left ≡ 0 → IsQuantifying mask left given rest
+    → IsFunction t (together rest)
     → IsFunction t (quantified mask (together given))
 quantifying_done mask left given rest t e q is =
     IsFunction-as (λ at. sym (some_hold-empty 64 (together rest) at) ∙ ap (λ m. quantified m (together rest) at) (sym e) ∙ q.same at) is
@@ -144,7 +175,8 @@ merging_start given none f new e g = record {
   whole = λ at. (λ i. (together (e i) at && holds (g i) at) && together given at) ∙ and_turned (holds f at) (together given at);
 }
 
-module _ (target : Assignment → Bool) (was left kept : List (List Node)) (f new : List Node) (popped : was ≡ left ++ f ∷ []) (p : IsMerging target was kept new) where
+module _ (target : Assignment → Bool) (was left kept : List (List Node)) (f new : List Node) (popped : was ≡ left ++ f ∷ [])
+    (p : IsMerging target was kept new) where
   was_left : (at : Assignment) → ((together kept at && holds new at) && (together left at && holds f at)) ≡ target at
   was_left at =
       ap (λ b. (together kept at && holds new at) && b) (sym (ap (λ fs. together fs at) popped ∙ together-push left f at))

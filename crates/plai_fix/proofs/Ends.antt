@@ -13,7 +13,8 @@ use Rattle.plai_fix.proofs.Places.{place_of, found_at, have}
 use Rattle.plai_fix.proofs.Steps.{row_at}
 
 -- no rows, and arcs with no pair, keep the work from which everything begins
-pub begins : (d : Domain) (g : Program d) (limits : Limits d) (limit : ℕ) (k : Keeping d) (unmet : ℕ → ℕ → Bool) → k.rows ≡ [] → ((n m : ℕ) → k.dirty n m ≡ false)
+pub begins : (d : Domain) (g : Program d) (limits : Limits d) (limit : ℕ) (k : Keeping d) (unmet : ℕ → ℕ → Bool) → k.rows ≡ []
+    → ((n m : ℕ) → k.dirty n m ≡ false)
     → ((n m j : ℕ) → k.calls n m j ≡ false) → ((n m : ℕ) → unmet n m ≡ false) → IsWorking d g limits limit (no_work d) [] k None None unmet
 begins d g limits limit k unmet none clean silent free =
     record {
@@ -41,7 +42,8 @@ begins d g limits limit k unmet none clean silent free =
           };
     }
 
-module _ (d : Domain) (g : Program d) (laws : IsLawful d g) (limits : Limits d) (limit : ℕ) (start : Work d) (log : List (LogEntry d)) (k : Keeping d) (unmet : ℕ → ℕ → Bool)
+module _ (d : Domain) (g : Program d) (laws : IsLawful d g) (limits : Limits d) (limit : ℕ) (start : Work d) (log : List (LogEntry d)) (k : Keeping d)
+    (unmet : ℕ → ℕ → Bool)
     (working : IsWorking d g limits limit start log k None None unmet) (clean : (n m : ℕ) → k.dirty n m ≡ false) where
   abbrev rows : List (WorkRow d)
   rows = (after_all d g start log).rows
@@ -50,7 +52,8 @@ module _ (d : Domain) (g : Program d) (laws : IsLawful d g) (limits : Limits d) 
   is_clean n r at i c s = let (kept, e, h) = row_at d g laws k None rows working.logged.keeps n r at in sym (h.dirty i c s) ∙ clean n (suc i)
 
   -- Theorem: where no pair is dirty and none is unmet, and each entry has a live row, the log ends.
-  pub ends : ((n m : ℕ) → unmet n m ≡ false) → ((x : NameOf d) → IsIn x g.entries → (q : WorkRow d) × (find d rows x ≡ Some q) × (q.live ≡ true)) → IsEnd d g (after_all d g start log)
+  pub ends : ((n m : ℕ) → unmet n m ≡ false) → ((x : NameOf d) → IsIn x g.entries → (q : WorkRow d) × (find d rows x ≡ Some q) × (q.live ≡ true))
+      → IsEnd d g (after_all d g start log)
   ends free entries =
       record {
         none_due = working.none_due;
@@ -64,8 +67,11 @@ module _ (d : Domain) (g : Program d) (laws : IsLawful d g) (limits : Limits d) 
       met x (inl i) = entries x i
       met x (inr (m, rec)) =
           let (n, at) = place_of d g laws rows m rec.row rec.there in
-          let s : item (g.clauses rec.row.name.pred) rec.number ≡ Some rec.clause = subst (λ (y : NameOf d). item (g.clauses y.pred) rec.number ≡ Some rec.clause) (sym (find_name d g laws rows m rec.row rec.there)) rec.is_clause in
-          let (q, f, l) = working.met.met n rec.row at rec.number rec.clause s (is_clean n rec.row at rec.number rec.clause s) (λ p. cc) (free n (suc rec.number)) x rec.names in
+          let s : item (g.clauses rec.row.name.pred) rec.number ≡ Some rec.clause =
+          subst (λ (y : NameOf d). item (g.clauses y.pred) rec.number ≡ Some rec.clause) (sym (find_name d g laws rows m rec.row rec.there))
+          rec.is_clause in
+          let (q, f, l) = working.met.met n rec.row at rec.number rec.clause s (is_clean n rec.row at rec.number rec.clause s) (λ p. cc)
+          (free n (suc rec.number)) x rec.names in
           (q, f, l rec.is_live)
 
   -- Theorem: where no pair is dirty and one is unmet, the limit is met and the log stops at a demanded name that is no live row.
@@ -99,6 +105,7 @@ module _ (d : Domain) (g : Program d) (laws : IsLawful d g) (limits : Limits d) 
       )
 
   -- the same at an entry
-  pub stops_at_entry : (x : NameOf d) → IsIn x g.entries → limit ≤ live_count d rows → ((q : WorkRow d) → find d rows x ≡ Some q → q.live ≡ false) → IsStoppedLog d g limit start log x × (live_count d rows ≡ limit)
+  pub stops_at_entry : (x : NameOf d) → IsIn x g.entries → limit ≤ live_count d rows → ((q : WorkRow d) → find d rows x ≡ Some q → q.live ≡ false)
+      → IsStoppedLog d g limit start log x × (live_count d rows ≡ limit)
   stops_at_entry x i no_room dead =
       let few = working.logged.few in (record { legal = working.logged.legal; none_due = working.none_due; demanded = inl i; not_live = dead }, omega arith)

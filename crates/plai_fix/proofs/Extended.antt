@@ -30,12 +30,14 @@ module _ (d : Domain) where
         names = λ j y named. at (item k.rows j) (item new.rows j) j y (answers.rows j) named;
       }
     where
-      at : (o u : Option (KeptRow d)) (j : ℕ) (y : NameOf d) → u ≡ given None (λ (r : KeptRow d). Some (record { name = r.name; answer = cond (nat_eq j n) a r.answer; live = r.live })) o
+      at : (o u : Option (KeptRow d)) (j : ℕ) (y : NameOf d)
+          → u ≡ given None (λ (r : KeptRow d). Some (record { name = r.name; answer = cond (nat_eq j n) a r.answer; live = r.live })) o
           → HasSome (λ (z : KeptRow d). z.name ≡ y) o → HasSome (λ (z : KeptRow d). z.name ≡ y) u
       at None u j y e h = absurd h
       at (Some r) u j y e h = subst (HasSome (λ (z : KeptRow d). z.name ≡ y)) (sym e) h
 
-      same_live : (xs ys : List (KeptRow d)) (f : ℕ → KeptRow d → Option d.Value) → ((j : ℕ) → item ys j ≡ given None (λ (r : KeptRow d). Some (record { name = r.name; answer = f j r; live = r.live })) (item xs j))
+      same_live : (xs ys : List (KeptRow d)) (f : ℕ → KeptRow d → Option d.Value)
+          → ((j : ℕ) → item ys j ≡ given None (λ (r : KeptRow d). Some (record { name = r.name; answer = f j r; live = r.live })) (item xs j))
           → kept_live d ys ≡ kept_live d xs
       same_live [] [] f h = refl
       same_live [] (y ∷ ys) f h = let e : Some y ≡ None = h zero in cc

@@ -1,5 +1,32 @@
 -- A growth and a made row at a table and its arcs: what they keep before it, and what after.
-use Rattle.std.proofs.Common.{◌≡◌, ◌↔◌, ℕ, suc, Bool, true, false, cond, ◌||◌, nat_eq, eqb-true, List, [], ◌∷◌, ◌++◌, map, length, Option, Some, None, IsSome, sym, refl, ap, ◌∙◌, subst}
+use Rattle.std.proofs.Common.{
+  ◌≡◌,
+  ◌↔◌,
+  ℕ,
+  suc,
+  Bool,
+  true,
+  false,
+  cond,
+  ◌||◌,
+  nat_eq,
+  eqb-true,
+  List,
+  [],
+  ◌∷◌,
+  ◌++◌,
+  map,
+  length,
+  Option,
+  Some,
+  None,
+  IsSome,
+  sym,
+  refl,
+  ap,
+  ◌∙◌,
+  subst,
+}
 use Rattle.std.proofs.lemmas.Bool.{eq-eqb, eqb-false}
 use Rattle.plai_theory.specs.Words.{IsIn, given, item, HasSome}
 use Rattle.plai_theory.specs.Domain.{Domain, Program, IsLawful}
@@ -8,12 +35,28 @@ use Rattle.plai_theory.specs.LegalWork.{WorkRow, find, mentions, new_row, after_
 use Rattle.plai_theory.proofs.Options.{by_test}
 use Rattle.plai_fix.specs.WorkStates.{KeptRow, Keeping, IsNamed, KeepsRow, AtBoth, Keeps}
 use Rattle.plai_fix.specs.Changes.{Answers, Makes}
-use Rattle.plai_fix.proofs.Places.{item_map, both_push, one_place, mentions_in, in_mentions, own_map, own_push, push_at, push_before, push_cases, none_at_end, there, have, has_some}
+use Rattle.plai_fix.proofs.Places.{
+  item_map,
+  both_push,
+  one_place,
+  mentions_in,
+  in_mentions,
+  own_map,
+  own_push,
+  push_at,
+  push_before,
+  push_cases,
+  none_at_end,
+  there,
+  have,
+  has_some,
+}
 use Rattle.plai_fix.proofs.Steps.{row_at, some_not, same_test, or_right, or_false, or_cases, cond_true}
 
 module _ (d : Domain) (g : Program d) (laws : IsLawful d g) where
   -- Theorem: where the answer of a row grows and its callers are marked, the arcs keep the grown work.
-  module _ (k new : Keeping d) (rows : List (WorkRow d)) (keeps : Keeps d g k None rows) (n : ℕ) (r : WorkRow d) (at : item rows n ≡ Some r) (a : Option d.Value) (answers : Answers d k new n a) where
+  module _ (k new : Keeping d) (rows : List (WorkRow d)) (keeps : Keeps d g k None rows) (n : ℕ) (r : WorkRow d) (at : item rows n ≡ Some r)
+      (a : Option d.Value) (answers : Answers d k new n a) where
     abbrev grow : WorkRow d → WorkRow d
     grow = after_growing d r.name a
 
@@ -21,19 +64,22 @@ module _ (d : Domain) (g : Program d) (laws : IsLawful d g) where
     changed b kept = record { name = kept.name; answer = cond (nat_eq b n) a kept.answer; live = kept.live }
 
     some_kept : (j : ℕ) → IsSome (item k.rows j) → IsSome (item new.rows j)
-    some_kept j h = let (kept, e) = have (item k.rows j) h in there (item new.rows j) (changed j kept) (answers.rows j ∙ ap (given None (λ z. Some (changed j z))) e)
+    some_kept j h = let (kept, e) = have (item k.rows j) h in
+        there (item new.rows j) (changed j kept) (answers.rows j ∙ ap (given None (λ z. Some (changed j z))) e)
 
     named_before : (j : ℕ) (y : NameOf d) → IsNamed d new.rows j y → IsNamed d k.rows j y
     named_before j y h = at_kept (item k.rows j) (subst (λ (o : Option (KeptRow d)). HasSome (λ (z : KeptRow d). z.name ≡ y) o) (answers.rows j) h)
       where
-        at_kept : (o : Option (KeptRow d)) → HasSome (λ (z : KeptRow d). z.name ≡ y) (given None (λ z. Some (changed j z)) o) → HasSome (λ (z : KeptRow d). z.name ≡ y) o
+        at_kept : (o : Option (KeptRow d)) → HasSome (λ (z : KeptRow d). z.name ≡ y) (given None (λ z. Some (changed j z)) o)
+            → HasSome (λ (z : KeptRow d). z.name ≡ y) o
         at_kept None h = h
         at_kept (Some kept) h = h
 
     own_name : IsNamed d k.rows n r.name
     own_name = let (kept, e, h) = row_at d g laws k None rows keeps n r at in has_some (λ (z : KeptRow d). z.name ≡ r.name) (item k.rows n) kept e h.name
 
-    grown_row : (b : ℕ) (kept : KeptRow d) (q : WorkRow d) → item k.rows b ≡ Some kept → item rows b ≡ Some q → KeepsRow d g k None b kept q → KeepsRow d g new None b (changed b kept) (grow q)
+    grown_row : (b : ℕ) (kept : KeptRow d) (q : WorkRow d) → item k.rows b ≡ Some kept → item rows b ≡ Some q → KeepsRow d g k None b kept q
+        → KeepsRow d g new None b (changed b kept) (grow q)
     grown_row b kept q e f h =
         record {
           name = h.name;
@@ -63,14 +109,16 @@ module _ (d : Domain) (g : Program d) (laws : IsLawful d g) where
         was_clean : (j : ℕ) → cond (mentions d r.name (q.calls j)) true (q.dirty j) ≡ false → q.dirty j ≡ false
         was_clean j e = by_test (mentions d r.name (q.calls j)) (λ t. let l : true ≡ false = rw t at e in cc) (λ t. rw t at e)
 
-        marked : (j : ℕ) (c : d.Clause) → item (g.clauses q.name.pred) j ≡ Some c → (k.calls b (suc j) n || k.dirty b (suc j)) ≡ cond (mentions d r.name (q.calls j)) true (q.dirty j)
+        marked : (j : ℕ) (c : d.Clause) → item (g.clauses q.name.pred) j ≡ Some c
+            → (k.calls b (suc j) n || k.dirty b (suc j)) ≡ cond (mentions d r.name (q.calls j)) true (q.dirty j)
         marked j c s =
             by_test (q.dirty j)
             (λ t. or_right (k.calls b (suc j) n) (k.dirty b (suc j)) (h.dirty j c s ∙ t) ∙ sym (cond_true (mentions d r.name (q.calls j)) (q.dirty j) t))
             (λ t.
             or_false (k.calls b (suc j) n) (k.dirty b (suc j)) (h.dirty j c s ∙ t)
             ∙ same_test (k.calls b (suc j) n) (cond (mentions d r.name (q.calls j)) true (q.dirty j))
-            (λ u. let v : mentions d r.name (q.calls j) ≡ true = in_mentions d g laws r.name (q.calls j) ((h.calls j c s t (some_not (b, j)) n r.name own_name).0 u) in rw v refl)
+            (λ u. let v : mentions d r.name (q.calls j) ≡ true =
+            in_mentions d g laws r.name (q.calls j) ((h.calls j c s t (some_not (b, j)) n r.name own_name).0 u) in rw v refl)
             (λ u. (h.calls j c s t (some_not (b, j)) n r.name own_name).1 (mentions_in d g laws r.name (q.calls j)
             (by_test (mentions d r.name (q.calls j)) (λ v. v) (λ v. let l : false ≡ true = sym t ∙ (rw v at u) in cc)))))
 
@@ -95,7 +143,8 @@ module _ (d : Domain) (g : Program d) (laws : IsLawful d g) where
         at_row b (Some kept) (Some q) e f h = grown_row b kept q e f h
 
   -- Theorem: where a row is made for a name that no pair but an open one calls, the arcs keep the work with that row.
-  module _ (k new : Keeping d) (rows : List (WorkRow d)) (open_pair : Option (ℕ × ℕ)) (keeps : Keeps d g k open_pair rows) (x : NameOf d) (absent : find d rows x ≡ None)
+  module _ (k new : Keeping d) (rows : List (WorkRow d)) (open_pair : Option (ℕ × ℕ)) (keeps : Keeps d g k open_pair rows) (x : NameOf d)
+      (absent : find d rows x ≡ None)
       (uncalled : (a : ℕ) (q : WorkRow d) → item rows a ≡ Some q → (j : ℕ) (c : d.Clause) → item (g.clauses q.name.pred) j ≡ Some c → q.dirty j ≡ false
       → (open_pair ≡ Some (a, j) → ⊥) → IsIn x (q.calls j) → ⊥) (makes : Makes d g k new x) where
     abbrev new_kept : KeptRow d
@@ -107,7 +156,8 @@ module _ (d : Domain) (g : Program d) (laws : IsLawful d g) where
     some_before : (j : ℕ) → IsSome (item k.rows j) → IsSome (item new.rows j)
     some_before j h =
         let (kept, e) = have (item k.rows j) h in
-        subst (λ (rs : List (KeptRow d)). IsSome (item rs j)) (sym rows_are) (there (item (k.rows ++ new_kept ∷ []) j) kept (push_before k.rows new_kept kept j e))
+        subst (λ (rs : List (KeptRow d)). IsSome (item rs j)) (sym rows_are)
+        (there (item (k.rows ++ new_kept ∷ []) j) kept (push_before k.rows new_kept kept j e))
 
     -- no pair of the new row is one of the old arcs
     not_last : (a : ℕ) → IsSome (item k.rows a) → a ≡ length k.rows → ⊥
@@ -128,7 +178,8 @@ module _ (d : Domain) (g : Program d) (laws : IsLawful d g) where
     dirty_before : (a m : ℕ) → IsSome (item k.rows a) → new.dirty a m ≡ k.dirty a m
     dirty_before a m h = makes.others a m (not_last a h)
 
-    kept_row : (a : ℕ) (kept : KeptRow d) (q : WorkRow d) → item k.rows a ≡ Some kept → item rows a ≡ Some q → KeepsRow d g k open_pair a kept q → KeepsRow d g new open_pair a kept q
+    kept_row : (a : ℕ) (kept : KeptRow d) (q : WorkRow d) → item k.rows a ≡ Some kept → item rows a ≡ Some q → KeepsRow d g k open_pair a kept q
+        → KeepsRow d g new open_pair a kept q
     kept_row a kept q e f h =
         let here : IsSome (item k.rows a) = there (item k.rows a) kept e in
         record {
@@ -164,7 +215,8 @@ module _ (d : Domain) (g : Program d) (laws : IsLawful d g) where
         record {
           own = own_push d g laws rows (new_row d x) keeps.own absent;
           each = λ a. subst (λ (rs : List (KeptRow d)). AtBoth (KeepsRow d g new open_pair a) (item rs a) (item (rows ++ new_row d x ∷ []) a)) (sym rows_are)
-              (both_push (KeepsRow d g new open_pair) k.rows rows new_kept (new_row d x) (λ b. at_row b (item k.rows b) (item rows b) refl refl (keeps.each b)) last_row a);
+              (both_push (KeepsRow d g new open_pair) k.rows rows new_kept (new_row d x)
+              (λ b. at_row b (item k.rows b) (item rows b) refl refl (keeps.each b)) last_row a);
           dirty_rows = λ a m t.
               by_test (nat_eq a (length k.rows))
               (λ u. subst (λ (z : ℕ). IsSome (item new.rows z)) (sym (eqb-true a (length k.rows) u)) last_there)
@@ -173,9 +225,11 @@ module _ (d : Domain) (g : Program d) (laws : IsLawful d g) where
         }
       where
         last_there : IsSome (item new.rows (length k.rows))
-        last_there = subst (λ (rs : List (KeptRow d)). IsSome (item rs (length k.rows))) (sym rows_are) (there (item (k.rows ++ new_kept ∷ []) (length k.rows)) new_kept (push_at k.rows new_kept))
+        last_there = subst (λ (rs : List (KeptRow d)). IsSome (item rs (length k.rows))) (sym rows_are)
+            (there (item (k.rows ++ new_kept ∷ []) (length k.rows)) new_kept (push_at k.rows new_kept))
 
-        at_row : (b : ℕ) (o : Option (KeptRow d)) (u : Option (WorkRow d)) → item k.rows b ≡ o → item rows b ≡ u → AtBoth (KeepsRow d g k open_pair b) o u → AtBoth (KeepsRow d g new open_pair b) o u
+        at_row : (b : ℕ) (o : Option (KeptRow d)) (u : Option (WorkRow d)) → item k.rows b ≡ o → item rows b ≡ u → AtBoth (KeepsRow d g k open_pair b) o u
+            → AtBoth (KeepsRow d g new open_pair b) o u
         at_row b None None e f h = tt
         at_row b None (Some q) e f h = h
         at_row b (Some kept) None e f h = h

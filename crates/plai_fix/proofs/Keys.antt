@@ -1,5 +1,34 @@
 -- Rows of a table looked up by their names, where equal keys are those of equal names.
-use Rattle.std.proofs.Common.{◌≡◌, ℕ, zero, suc, ◌+◌, ◌<◌, ◌≤◌, Bool, true, false, ◌&&◌, List, [], ◌∷◌, length, slice_get, get_or, position, nat_lt, Some, None, ◌↔◌, sym, refl, ap, ◌∙◌, subst, arith}
+use Rattle.std.proofs.Common.{
+  ◌≡◌,
+  ℕ,
+  zero,
+  suc,
+  ◌+◌,
+  ◌<◌,
+  ◌≤◌,
+  Bool,
+  true,
+  false,
+  ◌&&◌,
+  List,
+  [],
+  ◌∷◌,
+  length,
+  slice_get,
+  get_or,
+  position,
+  nat_lt,
+  Some,
+  None,
+  ◌↔◌,
+  sym,
+  refl,
+  ap,
+  ◌∙◌,
+  subst,
+  arith,
+}
 use Rattle.std.specs.Option.{option_map}
 use Rattle.std.specs.List.{position_or_len}
 use Rattle.std.proofs.lemmas.Bool.Decides.{nat_tests}
@@ -67,10 +96,12 @@ module _ (V : Type 0) (value_of : V → Abs) (same_call : V → V → Bool) (equ
 
   -- the test for equal names answers as the one for equal keys
   tests_agree : (a b : Key V) (t : Bool) → same_key a b ≡ t → (row_eq.ghosts).eq (row_name (key_name value_of b)) (row_name (key_name value_of a)) ≡ t
-  tests_agree a b true e = subst (λ (x : Name PredKey Abs). (row_eq.ghosts).eq (row_name x) (row_name (key_name value_of a)) ≡ true) (key-true a b e) (same_name-refl (row_name (key_name value_of a)))
+  tests_agree a b true e = subst (λ (x : Name PredKey Abs). (row_eq.ghosts).eq (row_name x) (row_name (key_name value_of a)) ≡ true) (key-true a b e)
+      (same_name-refl (row_name (key_name value_of a)))
   tests_agree a b false e =
       by_test ((row_eq.ghosts).eq (row_name (key_name value_of b)) (row_name (key_name value_of a)))
-      (λ t. let n : row_name (key_name value_of b) ≡ row_name (key_name value_of a) = same_name-true (row_name (key_name value_of b)) (row_name (key_name value_of a)) t in
+      (λ t. let n : row_name (key_name value_of b) ≡ row_name (key_name value_of a) =
+      same_name-true (row_name (key_name value_of b)) (row_name (key_name value_of a)) t in
       let k : key_name value_of a ≡ key_name value_of b = (λ i. record { pred = (sym n i).pred; call = (sym n i).call }) in
       let c : true ≡ false = sym (key-same a b k) ∙ e in cc)
       (λ t. t)
@@ -82,20 +113,25 @@ module _ (V : Type 0) (value_of : V → Abs) (same_call : V → V → Bool) (equ
   answer_at p key [] n r e t before = cc
   answer_at p key (q ∷ rows) zero r e t before =
       let same : q ≡ r = cc in
-      let u : (row_eq.ghosts).eq (row_name (key_name value_of q.name)) (row_name (key_name value_of key)) ≡ true = tests_agree key q.name true (subst (λ (z : TableRow V). same_key key z.name ≡ true) (sym same) t) in
+      let u : (row_eq.ghosts).eq (row_name (key_name value_of q.name)) (row_name (key_name value_of key)) ≡ true =
+      tests_agree key q.name true (subst (λ (z : TableRow V). same_key key z.name ≡ true) (sym same) t) in
       rw u (ap (λ (z : TableRow V). option_map value_of z.answer) (sym same))
   answer_at p key (q ∷ rows) (suc n) r e t before =
-      let u : (row_eq.ghosts).eq (row_name (key_name value_of q.name)) (row_name (key_name value_of key)) ≡ false = tests_agree key q.name false (before zero (omega arith)) in
+      let u : (row_eq.ghosts).eq (row_name (key_name value_of q.name)) (row_name (key_name value_of key)) ≡ false =
+      tests_agree key q.name false (before zero (omega arith)) in
       rw u (answer_at p key rows n r e t (λ k h. before (suc k) (omega arith)))
 
-  pub no_answer : (p : PlainDomain) (key : Key V) (rows : List (TableRow V)) → ((k : ℕ) → k < length (names_of rows) → same_key key (get_or (names_of rows) k key) ≡ false)
+  pub no_answer : (p : PlainDomain) (key : Key V) (rows : List (TableRow V))
+      → ((k : ℕ) → k < length (names_of rows) → same_key key (get_or (names_of rows) k key) ≡ false)
       → kept_source (as_domain p) (kept_rows value_of p rows) key.pred (value_of key.call) ≡ None
   no_answer p key [] none = refl
   no_answer p key (q ∷ rows) none =
-      let u : (row_eq.ghosts).eq (row_name (key_name value_of q.name)) (row_name (key_name value_of key)) ≡ false = tests_agree key q.name false (none zero (omega arith)) in
+      let u : (row_eq.ghosts).eq (row_name (key_name value_of q.name)) (row_name (key_name value_of key)) ≡ false =
+      tests_agree key q.name false (none zero (omega arith)) in
       rw u (no_answer p key rows (λ k h. none (suc k) (omega arith)))
 
-  pub found : (p : PlainDomain) (key : Key V) (rows : List (TableRow V)) (n : ℕ) (r : TableRow V) → position (same_key key) (names_of rows) ≡ Some n → slice_get rows n ≡ Some r
+  pub found : (p : PlainDomain) (key : Key V) (rows : List (TableRow V)) (n : ℕ) (r : TableRow V) → position (same_key key) (names_of rows) ≡ Some n
+      → slice_get rows n ≡ Some r
       → option_map value_of r.answer ≡ kept_source (as_domain p) (kept_rows value_of p rows) key.pred (value_of key.call)
   found p key rows n r e at =
       let (l, t, before) = position-Some (same_key key) (names_of rows) n key e in
@@ -111,7 +147,8 @@ module _ (V : Type 0) (value_of : V → Abs) (same_call : V → V → Bool) (equ
   absent p key rows e = no_answer p key rows (position-None (same_key key) (names_of rows) key e)
 
   -- the row that is found has the name, and where none is found no row has it
-  pub found_named : (p : PlainDomain) (key : Key V) (rows : List (TableRow V)) (n : ℕ) → position (same_key key) (names_of rows) ≡ Some n → IsNamed (as_domain p) (kept_rows value_of p rows) n (key_name value_of key)
+  pub found_named : (p : PlainDomain) (key : Key V) (rows : List (TableRow V)) (n : ℕ) → position (same_key key) (names_of rows) ≡ Some n
+      → IsNamed (as_domain p) (kept_rows value_of p rows) n (key_name value_of key)
   found_named p key rows n e =
       let (l, t, before) = position-Some (same_key key) (names_of rows) n key e in named_at rows n l (sym (key-true key (get_or (names_of rows) n key) t))
     where

@@ -1,5 +1,35 @@
 -- Rows of called names, as they are found and made one after another.
-use Rattle.std.proofs.Common.{◌≡◌, ◌⊎◌, ℕ, zero, suc, ◌+◌, Bool, true, false, cond, nat_eq, eqb-true, ◌||◌, count_by, List, [], ◌∷◌, ◌++◌, length, Option, Some, None, sym, refl, ap₂, ◌∙◌, subst, inl, inr}
+use Rattle.std.proofs.Common.{
+  ◌≡◌,
+  ◌⊎◌,
+  ℕ,
+  zero,
+  suc,
+  ◌+◌,
+  Bool,
+  true,
+  false,
+  cond,
+  nat_eq,
+  eqb-true,
+  ◌||◌,
+  count_by,
+  List,
+  [],
+  ◌∷◌,
+  ◌++◌,
+  length,
+  Option,
+  Some,
+  None,
+  sym,
+  refl,
+  ap₂,
+  ◌∙◌,
+  subst,
+  inl,
+  inr,
+}
 use Rattle.std.proofs.lemmas.Bool.{eq-eqb}
 use Rattle.std.proofs.lemmas.List.Sums.{sum_by-cons}
 use Rattle.plai_theory.specs.Words.{IsIn, item, HasSome}
@@ -44,7 +74,8 @@ count_cons p x xs = sum_by-cons (λ y. cond (p y) 1 0) x xs
 
 module _ (d : Domain) where
   -- the last of the names that are left has this row
-  pub links_found : (kept : List (KeptRow d)) (called left : List (NameOf d)) (rows new : ℕ → Bool) (full : Bool) (y : NameOf d) (j : ℕ) → Links d kept called rows (left ++ y ∷ []) full
+  pub links_found : (kept : List (KeptRow d)) (called left : List (NameOf d)) (rows new : ℕ → Bool) (full : Bool) (y : NameOf d) (j : ℕ)
+      → Links d kept called rows (left ++ y ∷ []) full
       → ((m : ℕ) → new m ≡ (rows m || nat_eq m j)) → IsNamed d kept j y → Links d kept called new left full
   links_found kept called left rows new full y j links more named =
       record {
@@ -59,11 +90,13 @@ module _ (d : Domain) where
       at : (x : NameOf d) → ((m : ℕ) × (rows m ≡ true) × IsNamed d kept m x) ⊎ (IsIn x (left ++ y ∷ []) ⊎ ((full ≡ true) × ((m : ℕ) → IsNamed d kept m x → ⊥)))
           → ((m : ℕ) × (new m ≡ true) × IsNamed d kept m x) ⊎ (IsIn x left ⊎ ((full ≡ true) × ((m : ℕ) → IsNamed d kept m x → ⊥)))
       at x (inl (m, t, n)) = inl (m, more m ∙ or_left (rows m) (nat_eq m j) t, n)
-      at x (inr (inl i)) = in_push left y x i (λ k. inr (inl k)) (λ e. inl (j, more j ∙ or_right (rows j) (nat_eq j j) (eq-eqb j j refl), subst (IsNamed d kept j) e named))
+      at x (inr (inl i)) = in_push left y x i (λ k. inr (inl k))
+          (λ e. inl (j, more j ∙ or_right (rows j) (nat_eq j j) (eq-eqb j j refl), subst (IsNamed d kept j) e named))
       at x (inr (inr h)) = inr (inr h)
 
   -- it has none, and the table is full
-  pub links_full : (kept : List (KeptRow d)) (called left : List (NameOf d)) (rows : ℕ → Bool) (full : Bool) (y : NameOf d) → Links d kept called rows (left ++ y ∷ []) full
+  pub links_full : (kept : List (KeptRow d)) (called left : List (NameOf d)) (rows : ℕ → Bool) (full : Bool) (y : NameOf d)
+      → Links d kept called rows (left ++ y ∷ []) full
       → ((j : ℕ) → IsNamed d kept j y → ⊥) → Links d kept called rows left true
   links_full kept called left rows full y links absent =
       record {
@@ -80,7 +113,8 @@ module _ (d : Domain) where
       at x (inr (inr h)) = inr (inr (refl, h.1))
 
   -- the same names in other rows
-  pub links_as : (kept new : List (KeptRow d)) (called left : List (NameOf d)) (rows : ℕ → Bool) → ((j : ℕ) (y : NameOf d) → IsNamed d kept j y → IsNamed d new j y)
+  pub links_as : (kept new : List (KeptRow d)) (called left : List (NameOf d)) (rows : ℕ → Bool)
+      → ((j : ℕ) (y : NameOf d) → IsNamed d kept j y → IsNamed d new j y)
       → Links d kept called rows left false → Links d new called rows left false
   links_as kept new called left rows h links =
       record {
@@ -107,14 +141,16 @@ module _ (d : Domain) where
   named_last kept r = has_some (λ (w : KeptRow d). w.name ≡ r.name) (item (kept ++ r ∷ []) (length kept)) r (push_at kept r) refl
 
   -- the last of the names that are left gets a row
-  pub links_made : (kept new : List (KeptRow d)) (called left : List (NameOf d)) (rows more : ℕ → Bool) (r : KeptRow d) → Links d kept called rows (left ++ r.name ∷ []) false
+  pub links_made : (kept new : List (KeptRow d)) (called left : List (NameOf d)) (rows more : ℕ → Bool) (r : KeptRow d)
+      → Links d kept called rows (left ++ r.name ∷ []) false
       → new ≡ kept ++ r ∷ [] → ((m : ℕ) → more m ≡ (rows m || nat_eq m (length kept))) → Links d new called more left false
   links_made kept new called left rows more r links is one =
       links_found new called left rows more false r.name (length kept)
       (links_as kept new called (left ++ r.name ∷ []) rows (λ j y n. subst (λ ks. IsNamed d ks j y) (sym is) (named_push kept r j y n)) links) one
       (subst (λ ks. IsNamed d ks (length kept) r.name) (sym is) (named_last kept r))
 
-module _ (d : Domain) (g : Program d) (laws : IsLawful d g) (k : Keeping d) (open_pair : Option (ℕ × ℕ)) (rows : List (WorkRow d)) (keeps : Keeps d g k open_pair rows) where
+module _ (d : Domain) (g : Program d) (laws : IsLawful d g) (k : Keeping d) (open_pair : Option (ℕ × ℕ)) (rows : List (WorkRow d))
+    (keeps : Keeps d g k open_pair rows) where
   -- a name without a kept row has no row under work
   pub absent_find : (y : NameOf d) → ((j : ℕ) → IsNamed d k.rows j y → ⊥) → find d rows y ≡ None
   absent_find y absent = at (find d rows y) refl
@@ -130,7 +166,8 @@ module _ (d : Domain) (g : Program d) (laws : IsLawful d g) (k : Keeping d) (ope
   pub row_under : (n : ℕ) (kept : KeptRow d) → item k.rows n ≡ Some kept → (r : WorkRow d) × (item rows n ≡ Some r) × KeepsRow d g k open_pair n kept r
   row_under n kept e = at (item k.rows n) (item rows n) e (keeps.each n)
     where
-      at : (o : Option (KeptRow d)) (u : Option (WorkRow d)) → o ≡ Some kept → AtBoth (KeepsRow d g k open_pair n) o u → (r : WorkRow d) × (u ≡ Some r) × KeepsRow d g k open_pair n kept r
+      at : (o : Option (KeptRow d)) (u : Option (WorkRow d)) → o ≡ Some kept → AtBoth (KeepsRow d g k open_pair n) o u
+          → (r : WorkRow d) × (u ≡ Some r) × KeepsRow d g k open_pair n kept r
       at None u e h = cc
       at (Some z) None e h = absurd h
       at (Some z) (Some r) e h = let same : z ≡ kept = cc in (r, refl, subst (λ w. KeepsRow d g k open_pair n w r) same h)
@@ -138,7 +175,8 @@ module _ (d : Domain) (g : Program d) (laws : IsLawful d g) (k : Keeping d) (ope
   pub named_find : (n : ℕ) (y : NameOf d) → IsNamed d k.rows n y → (r : WorkRow d) × (find d rows y ≡ Some r) × (item rows n ≡ Some r)
   named_find n y named = at (item k.rows n) refl named
     where
-      at : (o : Option (KeptRow d)) → item k.rows n ≡ o → HasSome (λ (z : KeptRow d). z.name ≡ y) o → (r : WorkRow d) × (find d rows y ≡ Some r) × (item rows n ≡ Some r)
+      at : (o : Option (KeptRow d)) → item k.rows n ≡ o → HasSome (λ (z : KeptRow d). z.name ≡ y) o
+          → (r : WorkRow d) × (find d rows y ≡ Some r) × (item rows n ≡ Some r)
       at None e h = absurd h
       at (Some kept) e h =
           let (r, f, keep) = row_under n kept e in

@@ -1,5 +1,32 @@
 -- What names that were looked up tell: the rows of those that have one, and all that have none.
-use Rattle.std.proofs.Common.{◌≡◌, ◌⊎◌, ◌↔◌, ℕ, Bool, true, false, nat_eq, eqb-true, ◌||◌, List, [], ◌∷◌, ◌++◌, map, Option, Some, None, IsSome, sym, refl, ap, ◌∙◌, subst, inl, inr}
+use Rattle.std.proofs.Common.{
+  ◌≡◌,
+  ◌⊎◌,
+  ◌↔◌,
+  ℕ,
+  Bool,
+  true,
+  false,
+  nat_eq,
+  eqb-true,
+  ◌||◌,
+  List,
+  [],
+  ◌∷◌,
+  ◌++◌,
+  map,
+  Option,
+  Some,
+  None,
+  IsSome,
+  sym,
+  refl,
+  ap,
+  ◌∙◌,
+  subst,
+  inl,
+  inr,
+}
 use Rattle.std.specs.List.{list_any}
 use Rattle.std.proofs.lemmas.Bool.{eq-eqb}
 use Rattle.plai_theory.specs.Words.{IsIn, HasSome, item}
@@ -60,7 +87,8 @@ module _ (d : Domain) (kept : List (KeptRow d)) where
       at_kept (Some k) e = refl
 
   -- a row that was found is one of a name
-  pub looks_sound : (names : List (NameOf d)) (rows : List ℕ) (missing : List (NameOf d)) → Looks d kept names rows missing → (j : ℕ) → list_any (nat_eq j) rows ≡ true
+  pub looks_sound : (names : List (NameOf d)) (rows : List ℕ) (missing : List (NameOf d)) → Looks d kept names rows missing → (j : ℕ)
+      → list_any (nat_eq j) rows ≡ true
       → (y : NameOf d) × IsIn y names × IsNamed d kept j y
   looks_sound [] [] [] Begin j e = cc
   looks_sound names rows missing (Found {names = ns} {missing = ms} {rows = rs} y i looks named) j e =
@@ -70,7 +98,8 @@ module _ (d : Domain) (kept : List (KeptRow d)) where
   looks_sound names rows missing (Missed {names = ns} {missing = ms} {rows = rs} y looks none) j e =
       let (x, inside, n) = looks_sound ns rs ms looks j e in (x, in_left ns (y ∷ []) x inside, n)
 
-  pub looks_inside : (names : List (NameOf d)) (rows : List ℕ) (missing : List (NameOf d)) → Looks d kept names rows missing → (j : ℕ) → list_any (nat_eq j) rows ≡ true → IsSome (item kept j)
+  pub looks_inside : (names : List (NameOf d)) (rows : List ℕ) (missing : List (NameOf d)) → Looks d kept names rows missing → (j : ℕ)
+      → list_any (nat_eq j) rows ≡ true → IsSome (item kept j)
   looks_inside names rows missing looks j e = let (y, inside, n) = looks_sound names rows missing looks j e in is_row j y n
 
   -- each name has a row that was found, or is missing
@@ -86,7 +115,8 @@ module _ (d : Domain) (kept : List (KeptRow d)) where
       more (inl (j, t, n)) = inl (j, any_push (nat_eq j) rs i ∙ or_left (list_any (nat_eq j) rs) (nat_eq j i) t, n)
       more (inr h) = inr h
   looks_whole names rows missing (Missed {names = ns} {missing = ms} {rows = rs} x looks none) y inside =
-      in_push ns x y inside (λ k. more (looks_whole ns rs ms looks y k)) (λ e. inr (subst (λ z. IsIn z (ms ++ x ∷ [])) e (in_last ms x), λ j n. none j (subst (IsNamed d kept j) (sym e) n)))
+      in_push ns x y inside (λ k. more (looks_whole ns rs ms looks y k))
+      (λ e. inr (subst (λ z. IsIn z (ms ++ x ∷ [])) e (in_last ms x), λ j n. none j (subst (IsNamed d kept j) (sym e) n)))
     where
       more : ((j : ℕ) × (list_any (nat_eq j) rs ≡ true) × IsNamed d kept j y) ⊎ (IsIn y ms × ((j : ℕ) → IsNamed d kept j y → ⊥))
           → ((j : ℕ) × (list_any (nat_eq j) rs ≡ true) × IsNamed d kept j y) ⊎ (IsIn y (ms ++ x ∷ []) × ((j : ℕ) → IsNamed d kept j y → ⊥))
@@ -94,14 +124,16 @@ module _ (d : Domain) (kept : List (KeptRow d)) where
       more (inr h) = inr (in_left ms (x ∷ []) y h.0, h.1)
 
   -- Theorem: where each name has at most one row, the rows that were found are those of the names.
-  pub looks_right : ((i j : ℕ) (y : NameOf d) → IsNamed d kept i y → IsNamed d kept j y → i ≡ j) → (names : List (NameOf d)) (rows : List ℕ) (missing : List (NameOf d)) → Looks d kept names rows missing
+  pub looks_right : ((i j : ℕ) (y : NameOf d) → IsNamed d kept i y → IsNamed d kept j y → i ≡ j)
+      → (names : List (NameOf d)) (rows : List ℕ) (missing : List (NameOf d)) → Looks d kept names rows missing
       → (j : ℕ) (y : NameOf d) → IsNamed d kept j y → (list_any (nat_eq j) rows ≡ true) ↔ IsIn y names
   looks_right own names rows missing looks j y named = (
     λ t. let (x, inside, n) = looks_sound names rows missing looks j t in subst (λ z. IsIn z names) (one_name j x y n named) inside,
     λ inside. at_name (looks_whole names rows missing looks y inside),
   )
     where
-      at_name : ((i : ℕ) × (list_any (nat_eq i) rows ≡ true) × IsNamed d kept i y) ⊎ (IsIn y missing × ((i : ℕ) → IsNamed d kept i y → ⊥)) → list_any (nat_eq j) rows ≡ true
+      at_name : ((i : ℕ) × (list_any (nat_eq i) rows ≡ true) × IsNamed d kept i y) ⊎ (IsIn y missing × ((i : ℕ) → IsNamed d kept i y → ⊥))
+          → list_any (nat_eq j) rows ≡ true
       at_name (inl (i, t, n)) = subst (λ z. list_any (nat_eq z) rows ≡ true) (own i j y n named) t
       at_name (inr h) = absurd (h.1 j named)
 
@@ -120,19 +152,23 @@ module _ (d : Domain) (kept : List (KeptRow d)) where
   looks_none rows missing e f = subst (λ rs. Looks d kept [] rs missing) (sym e) (subst (λ ms. Looks d kept [] [] ms) (sym f) Begin)
 
   -- one more name that has a row, and one that has none
-  pub found_one : (y : NameOf d) (j : ℕ) (names : List (NameOf d)) (rows found : List ℕ) (missing : List (NameOf d)) → found ≡ rows ++ j ∷ [] → IsNamed d kept j y
+  pub found_one : (y : NameOf d) (j : ℕ) (names : List (NameOf d)) (rows found : List ℕ) (missing : List (NameOf d)) → found ≡ rows ++ j ∷ []
+      → IsNamed d kept j y
       → Looks d kept names rows missing → Looks d kept (names ++ y ∷ []) found missing
   found_one y j names rows found missing e named looks = subst (λ rs. Looks d kept (names ++ y ∷ []) rs missing) (sym e) (Found y j looks named)
 
-  pub missed_one : {A : Type 0} (f : A → NameOf d) (x : A) (names : List (NameOf d)) (rows : List ℕ) (keys missed : List A) → missed ≡ keys ++ x ∷ [] → ((j : ℕ) → IsNamed d kept j (f x) → ⊥)
+  pub missed_one : {A : Type 0} (f : A → NameOf d) (x : A) (names : List (NameOf d)) (rows : List ℕ) (keys missed : List A) → missed ≡ keys ++ x ∷ []
+      → ((j : ℕ) → IsNamed d kept j (f x) → ⊥)
       → Looks d kept names rows (map f keys) → Looks d kept (names ++ f x ∷ []) rows (map f missed)
   missed_one f x names rows keys missed e none looks =
       subst (λ ms. Looks d kept (names ++ f x ∷ []) rows ms) (sym (ap (map f) e ∙ names_push f keys x)) (Missed (f x) looks none)
 
-  pub looks_push : {A : Type 0} (f : A → NameOf d) (keys : List A) (x : A) (rows : List ℕ) (missing : List (NameOf d)) → Looks d kept (map f keys ++ f x ∷ []) rows missing → Looks d kept (map f (keys ++ x ∷ [])) rows missing
+  pub looks_push : {A : Type 0} (f : A → NameOf d) (keys : List A) (x : A) (rows : List ℕ) (missing : List (NameOf d))
+      → Looks d kept (map f keys ++ f x ∷ []) rows missing → Looks d kept (map f (keys ++ x ∷ [])) rows missing
   looks_push f keys x rows missing looks = subst (λ ns. Looks d kept ns rows missing) (sym (names_push f keys x)) looks
 
-  pub looks_all : {A : Type 0} (f : A → NameOf d) (keys all : List A) (rows : List ℕ) (missing : List (NameOf d)) → keys ≡ all → Looks d kept (map f keys) rows missing → Looks d kept (map f all) rows missing
+  pub looks_all : {A : Type 0} (f : A → NameOf d) (keys all : List A) (rows : List ℕ) (missing : List (NameOf d)) → keys ≡ all
+      → Looks d kept (map f keys) rows missing → Looks d kept (map f all) rows missing
   looks_all f keys all rows missing e looks = subst (λ ks. Looks d kept (map f ks) rows missing) e looks
 
 pub map_same : {A : Type 0} (xs : List A) → map (λ x. x) xs ≡ xs

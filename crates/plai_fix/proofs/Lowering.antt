@@ -14,9 +14,11 @@ use Rattle.plai_fix.proofs.Lists.{item_within}
 use Rattle.plai_fix.proofs.Measured.{same_room, same_ranks, same_dirties}
 use Rattle.plai_fix.proofs.Places.{found_at, there}
 
-module _ (d : Domain) (g : Program d) (laws : IsLawful d g) (k new : Keeping d) (open_pair next : Option (ℕ × ℕ)) (rows : List (WorkRow d)) (keeps : Keeps d g k open_pair rows) where
+module _ (d : Domain) (g : Program d) (laws : IsLawful d g) (k new : Keeping d) (open_pair next : Option (ℕ × ℕ)) (rows : List (WorkRow d))
+    (keeps : Keeps d g k open_pair rows) where
   -- a made row
-  pub made_room : (limit : ℕ) (x : NameOf d) → Keeps d g new next (rows ++ new_row d x ∷ []) → kept_live d k.rows < limit → kept_room d limit new.rows < kept_room d limit k.rows
+  pub made_room : (limit : ℕ) (x : NameOf d) → Keeps d g new next (rows ++ new_row d x ∷ []) → kept_live d k.rows < limit
+      → kept_room d limit new.rows < kept_room d limit k.rows
   made_room limit x after few =
       let l = same_live d g laws k open_pair rows keeps in
       let a = same_room d g laws k open_pair rows keeps limit in
@@ -30,7 +32,8 @@ module _ (d : Domain) (g : Program d) (laws : IsLawful d g) (k new : Keeping d) 
     evaluated_dirties i c s dirty names after =
         let a = same_dirties d g laws k open_pair rows keeps in
         let b = same_dirties d g laws new next (map (after_evaluating d r.name i names) rows) after in
-        let m = evaluated_lowers d g laws rows keeps.own r.name i names r (found_at d g laws rows keeps.own n r at) live dirty (item_within (g.clauses r.name.pred) i (there (item (g.clauses r.name.pred) i) c s)) in omega arith
+        let m = evaluated_lowers d g laws rows keeps.own r.name i names r (found_at d g laws rows keeps.own n r at) live dirty
+        (item_within (g.clauses r.name.pred) i (there (item (g.clauses r.name.pred) i) c s)) in omega arith
 
     module _ (v : d.Value) (after : Keeps d g new next (map (after_growing d r.name (Some v)) rows)) where
       -- a first answer
@@ -47,12 +50,14 @@ module _ (d : Domain) (g : Program d) (laws : IsLawful d g) (k new : Keeping d) 
           let b = same_room d g laws new next (map (after_growing d r.name (Some v)) rows) after limit in
           let m = growth_room d g laws limit rows r.name keeps.own u v r (found_at d g laws rows keeps.own n r at) had in omega arith
 
-      pub later_ranks : (rank : d.Pred → d.Value → ℕ) → IsRank d rank → (u : d.Value) → r.answer ≡ Some u → d.leq r.name.pred u v → u ≢ v → kept_ranks d rank new.rows < kept_ranks d rank k.rows
+      pub later_ranks : (rank : d.Pred → d.Value → ℕ) → IsRank d rank → (u : d.Value) → r.answer ≡ Some u → d.leq r.name.pred u v → u ≢ v
+          → kept_ranks d rank new.rows < kept_ranks d rank k.rows
       later_ranks rank is u had up other =
           let a = same_ranks d g laws k open_pair rows keeps rank in
           let b = same_ranks d g laws new next (map (after_growing d r.name (Some v)) rows) after rank in
           let m = growth_lowers d g laws rows keeps.own r.name rank is u v r (found_at d g laws rows keeps.own n r at) live had up other in omega arith
 
 -- calls that are set
-pub set_dirties : (d : Domain) (g : Program d) (k new : Keeping d) (n i : ℕ) (called : ℕ → Bool) → SetsCalls d k new n i called → kept_dirties d g new ≡ kept_dirties d g k
+pub set_dirties : (d : Domain) (g : Program d) (k new : Keeping d) (n i : ℕ) (called : ℕ → Bool) → SetsCalls d k new n i called
+    → kept_dirties d g new ≡ kept_dirties d g k
 set_dirties d g k new n i called set = λ j. kept_dirties d g (record { rows = set.rows j; dirty = λ a m. set.dirty a m j; calls = k.calls })

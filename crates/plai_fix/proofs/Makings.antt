@@ -1,5 +1,35 @@
 -- What a made row and a grown answer change of what is kept.
-use Rattle.std.proofs.Common.{◌≡◌, ℕ, zero, suc, ◌<◌, Bool, true, false, cond, ◌&&◌, ◌||◌, nat_eq, eqb-true, List, [], ◌∷◌, ◌++◌, map, length, Option, Some, None, IsSome, sym, refl, ap, ◌∙◌, subst, arith}
+use Rattle.std.proofs.Common.{
+  ◌≡◌,
+  ℕ,
+  zero,
+  suc,
+  ◌<◌,
+  Bool,
+  true,
+  false,
+  cond,
+  ◌&&◌,
+  ◌||◌,
+  nat_eq,
+  eqb-true,
+  List,
+  [],
+  ◌∷◌,
+  ◌++◌,
+  map,
+  length,
+  Option,
+  Some,
+  None,
+  IsSome,
+  sym,
+  refl,
+  ap,
+  ◌∙◌,
+  subst,
+  arith,
+}
 use Rattle.std.proofs.lemmas.Bool.{eq-eqb, eqb-false}
 use Rattle.plai_theory.specs.Words.{given, item}
 use Rattle.plai_theory.proofs.Options.{by_test}
@@ -44,7 +74,8 @@ false_and false q e = refl
 no_zero : (last : ℕ) → is_number last 0 ≡ true → ⊥
 no_zero last e = cc
 
-module _ (V : Type 0) (value_of : V → Abs) (p : PlainDomain) (program : ProgramView) (rows : List (TableRow V)) (dirty new : ℕ → ℕ → Bool) (calls called : ℕ → ℕ → ℕ → Bool) (same : (r c q : ℕ) → called r c q ≡ calls r c q) where
+module _ (V : Type 0) (value_of : V → Abs) (p : PlainDomain) (program : ProgramView) (rows : List (TableRow V)) (dirty new : ℕ → ℕ → Bool)
+    (calls called : ℕ → ℕ → ℕ → Bool) (same : (r c q : ℕ) → called r c q ≡ calls r c q) where
   abbrev state : List (TableRow V) → (ℕ → ℕ → Bool) → (ℕ → ℕ → ℕ → Bool) → Keeping (as_domain p)
   state rs ds cs = record { rows = kept_rows value_of p rs; dirty = ds; calls = cs }
 
@@ -78,35 +109,42 @@ module _ (V : Type 0) (value_of : V → Abs) (p : PlainDomain) (program : Progra
 
       back : (m : ℕ) → IsSome (clause_at (as_domain p) (as_program p program) name.pred m) → is_number last m ≡ true
       back zero e = cc
-      back (suc i) e = let k : i < length (clauses_of program name.pred) = item_within (clauses_of program name.pred) i e in of_range last (suc i) (omega arith) (omega arith)
+      back (suc i) e = let k : i < length (clauses_of program name.pred) = item_within (clauses_of program name.pred) i e in
+          of_range last (suc i) (omega arith) (omega arith)
 
   -- the row that changes, and another one
   changed_here : (answer : V) (xs : List (TableRow V)) (n : ℕ) → item (kept_rows value_of p (row_changed (with_answer answer) xs n)) n
-      ≡ given None (λ (r : KeptRow (as_domain p)). Some (record { name = r.name; answer = Some (value_of answer); live = r.live })) (item (kept_rows value_of p xs) n)
+      ≡ given None (λ (r : KeptRow (as_domain p)). Some (record { name = r.name; answer = Some (value_of answer); live = r.live }))
+      (item (kept_rows value_of p xs) n)
   changed_here answer [] n = refl
   changed_here answer (x ∷ xs) zero = refl
   changed_here answer (x ∷ xs) (suc n) = changed_here answer xs n
 
-  changed_else : (answer : V) (xs : List (TableRow V)) (n j : ℕ) → (j ≡ n → ⊥) → item (kept_rows value_of p (row_changed (with_answer answer) xs n)) j ≡ item (kept_rows value_of p xs) j
+  changed_else : (answer : V) (xs : List (TableRow V)) (n j : ℕ) → (j ≡ n → ⊥)
+      → item (kept_rows value_of p (row_changed (with_answer answer) xs n)) j ≡ item (kept_rows value_of p xs) j
   changed_else answer [] n j other = refl
   changed_else answer (x ∷ xs) zero zero other = absurd (other refl)
   changed_else answer (x ∷ xs) zero (suc j) other = refl
   changed_else answer (x ∷ xs) (suc n) zero other = refl
   changed_else answer (x ∷ xs) (suc n) (suc j) other = changed_else answer xs n j (λ e. other (ap suc e))
 
-  stays : (o : Option (KeptRow (as_domain p))) → o ≡ given None (λ (r : KeptRow (as_domain p)). Some (record { name = r.name; answer = r.answer; live = r.live })) o
+  stays : (o : Option (KeptRow (as_domain p)))
+      → o ≡ given None (λ (r : KeptRow (as_domain p)). Some (record { name = r.name; answer = r.answer; live = r.live })) o
   stays None = refl
   stays (Some r) = refl
 
   changed_at : (answer : V) (xs : List (TableRow V)) (n j : ℕ) → item (kept_rows value_of p (row_changed (with_answer answer) xs n)) j
-      ≡ given None (λ (r : KeptRow (as_domain p)). Some (record { name = r.name; answer = cond (nat_eq j n) (Some (value_of answer)) r.answer; live = r.live })) (item (kept_rows value_of p xs) j)
+      ≡ given None (λ (r : KeptRow (as_domain p)). Some
+      (record { name = r.name; answer = cond (nat_eq j n) (Some (value_of answer)) r.answer; live = r.live })) (item (kept_rows value_of p xs) j)
   changed_at answer xs n j =
       by_test (nat_eq j n)
       (λ t. rw t (subst (λ z. item (kept_rows value_of p (row_changed (with_answer answer) xs n)) z
-      ≡ given None (λ (r : KeptRow (as_domain p)). Some (record { name = r.name; answer = Some (value_of answer); live = r.live })) (item (kept_rows value_of p xs) z)) (sym (eqb-true j n t)) (changed_here answer xs n)))
+      ≡ given None (λ (r : KeptRow (as_domain p)). Some (record { name = r.name; answer = Some (value_of answer); live = r.live }))
+      (item (kept_rows value_of p xs) z)) (sym (eqb-true j n t)) (changed_here answer xs n)))
       (λ t. rw t (changed_else answer xs n j (eqb-false j n t) ∙ stays (item (kept_rows value_of p xs) j)))
 
-  pub answers : (answer : V) (n : ℕ) → ((r c : ℕ) → new r c ≡ (calls r c n || dirty r c)) → (changed : List (TableRow V)) → changed ≡ row_changed (with_answer answer) rows n
+  pub answers : (answer : V) (n : ℕ) → ((r c : ℕ) → new r c ≡ (calls r c n || dirty r c)) → (changed : List (TableRow V))
+      → changed ≡ row_changed (with_answer answer) rows n
       → Answers (as_domain p) (state rows dirty calls) (state changed new called) n (Some (value_of answer))
   answers answer n marked changed is =
       record {

@@ -1,5 +1,29 @@
 -- One more mark.
-use Rattle.std.proofs.Common.{◌≡◌, ℕ, ◌+◌, ◌<◌, ◌≤◌, Bool, true, false, not, ◌&&◌, ◌||◌, nat_eq, nat_lt, eqb-true, List, length, take, get_or, sym, refl, ap, ◌∙◌, arith}
+use Rattle.std.proofs.Common.{
+  ◌≡◌,
+  ℕ,
+  ◌+◌,
+  ◌<◌,
+  ◌≤◌,
+  Bool,
+  true,
+  false,
+  not,
+  ◌&&◌,
+  ◌||◌,
+  nat_eq,
+  nat_lt,
+  eqb-true,
+  List,
+  length,
+  take,
+  get_or,
+  sym,
+  refl,
+  ap,
+  ◌∙◌,
+  arith,
+}
 use Rattle.std.specs.List.{list_any}
 use Rattle.std.proofs.lemmas.Bool.{eqb-false}
 use Rattle.std.proofs.lemmas.Bool.Decides.{nat_tests}
@@ -87,9 +111,11 @@ one_row : (a x y n z l : Bool) → l ≡ ((a && y) || z) → (x || y) ≡ n → 
 one_row true x y n z l e f = ap (λ w. x || w) e ∙ or_both x y z ∙ ap (λ w. w || z) f
 one_row false x y n z l e f = e
 
-pub clauses_more : (row last r k : ℕ) (new old before : Bool) → new ≡ ((nat_eq r row && nat_eq k (last + 1)) || old) → old ≡ ((nat_eq r row && is_number last k) || before)
+pub clauses_more : (row last r k : ℕ) (new old before : Bool) → new ≡ ((nat_eq r row && nat_eq k (last + 1)) || old)
+    → old ≡ ((nat_eq r row && is_number last k) || before)
     → new ≡ ((nat_eq r row && is_number (last + 1) k) || before)
-clauses_more row last r k new old before e f = e ∙ one_row (nat_eq r row) (nat_eq k (last + 1)) (is_number last k) (is_number (last + 1) k) before old f (number_step last k)
+clauses_more row last r k new old before e f =
+    e ∙ one_row (nat_eq r row) (nat_eq k (last + 1)) (is_number last k) (is_number (last + 1) k) before old f (number_step last k)
 
 pub pairs_more : (pairs : List (ℕ × ℕ)) (i : ℕ) (d : ℕ × ℕ) (r k : ℕ) (new old before : Bool) → i < length pairs → new ≡ (is_pair r k (get_or pairs i d) || old)
     → old ≡ (list_any (is_pair r k) (take i pairs) || before) → new ≡ (list_any (is_pair r k) (take (i + 1) pairs) || before)

@@ -9,7 +9,8 @@ use Rattle.plai_fix.specs.Measures.{kept_sum, kept_nones, kept_room, kept_ranks,
 use Rattle.plai_fix.proofs.Linked.{same_live}
 
 same_sum : (d : Domain) (kept : List (KeptRow d)) (ws : List (WorkRow d)) (R : ℕ → KeptRow d → WorkRow d → Type 0) (f : ℕ → KeptRow d → ℕ) (h : WorkRow d → ℕ)
-    → ((a : ℕ) → AtBoth (R a) (item kept a) (item ws a)) → ((a : ℕ) (z : KeptRow d) (r : WorkRow d) → R a z r → h r ≡ f a z) → sum_rows d h ws ≡ kept_sum d f kept
+    → ((a : ℕ) → AtBoth (R a) (item kept a) (item ws a)) → ((a : ℕ) (z : KeptRow d) (r : WorkRow d) → R a z r → h r ≡ f a z)
+    → sum_rows d h ws ≡ kept_sum d f kept
 same_sum d [] [] R f h both same = refl
 same_sum d [] (r ∷ ws) R f h both same = absurd (both zero)
 same_sum d (z ∷ kept) [] R f h both same = absurd (both zero)
@@ -25,7 +26,8 @@ there [] i l = absurd (omega arith)
 there (x ∷ xs) zero l = (x, refl)
 there (x ∷ xs) (suc i) l = there xs i (omega arith)
 
-module _ (d : Domain) (g : Program d) (laws : IsLawful d g) (k : Keeping d) (open_pair : Option (ℕ × ℕ)) (rows : List (WorkRow d)) (keeps : Keeps d g k open_pair rows) where
+module _ (d : Domain) (g : Program d) (laws : IsLawful d g) (k : Keeping d) (open_pair : Option (ℕ × ℕ)) (rows : List (WorkRow d))
+    (keeps : Keeps d g k open_pair rows) where
   same_nones : nones d rows ≡ kept_nones d k.rows
   same_nones =
       same_sum d k.rows rows (KeepsRow d g k open_pair) (λ j r. cond r.live (one_at_none r.answer) 0) (λ r. cond r.live (one_at_none r.answer) 0) keeps.each
@@ -36,7 +38,8 @@ module _ (d : Domain) (g : Program d) (laws : IsLawful d g) (k : Keeping d) (ope
 
   pub same_ranks : (rank : d.Pred → d.Value → ℕ) → ranks d rank rows ≡ kept_ranks d rank k.rows
   same_ranks rank =
-      same_sum d k.rows rows (KeepsRow d g k open_pair) (λ j r. cond r.live (rank_of (rank r.name.pred) r.answer) 0) (λ r. cond r.live (rank_of (rank r.name.pred) r.answer) 0) keeps.each
+      same_sum d k.rows rows (KeepsRow d g k open_pair) (λ j r. cond r.live (rank_of (rank r.name.pred) r.answer) 0)
+      (λ r. cond r.live (rank_of (rank r.name.pred) r.answer) 0) keeps.each
       (λ a z r h. λ i. cond (sym h.live i) (rank_of (rank (sym h.name i).pred) (sym h.answer i)) 0)
 
   pub same_dirties : dirties d g rows ≡ kept_dirties d g k
@@ -44,5 +47,6 @@ module _ (d : Domain) (g : Program d) (laws : IsLawful d g) (k : Keeping d) (ope
       same_sum d k.rows rows (KeepsRow d g k open_pair) (λ j r. cond r.live (dirty_below (λ i. k.dirty j (suc i)) (length (g.clauses r.name.pred))) 0)
       (λ r. cond r.live (dirty_below r.dirty (length (g.clauses r.name.pred))) 0) keeps.each
       (λ a z r h.
-      ap (λ n. cond r.live n 0) (same_below r.dirty (λ i. k.dirty a (suc i)) (length (g.clauses r.name.pred)) (λ i l. let (c, e) = there (g.clauses r.name.pred) i l in sym (h.dirty i c e)))
+      ap (λ n. cond r.live n 0) (same_below r.dirty (λ i. k.dirty a (suc i)) (length (g.clauses r.name.pred))
+      (λ i l. let (c, e) = there (g.clauses r.name.pred) i l in sym (h.dirty i c e)))
       ∙ (λ i. cond (sym h.live i) (dirty_below (λ j. k.dirty a (suc j)) (length (g.clauses (sym h.name i).pred))) 0))

@@ -1,10 +1,49 @@
 -- A pair that is evaluated and worked in, step by step.
-use Rattle.std.proofs.Common.{◌≡◌, ◌≢◌, ◌⊎◌, ◌↔◌, ℕ, suc, Bool, true, false, nat_eq, List, [], ◌∷◌, ◌++◌, Option, Some, None, IsSome, sym, refl, ap, ◌∙◌, subst, inl, inr}
+use Rattle.std.proofs.Common.{
+  ◌≡◌,
+  ◌≢◌,
+  ◌⊎◌,
+  ◌↔◌,
+  ℕ,
+  suc,
+  Bool,
+  true,
+  false,
+  nat_eq,
+  List,
+  [],
+  ◌∷◌,
+  ◌++◌,
+  Option,
+  Some,
+  None,
+  IsSome,
+  sym,
+  refl,
+  ap,
+  ◌∙◌,
+  subst,
+  inl,
+  inr,
+}
 use Rattle.std.proofs.lemmas.Bool.{eq-eqb}
 use Rattle.plai_theory.specs.Words.{IsIn, UpTo, given, item, HasSome}
 use Rattle.plai_theory.specs.Domain.{Domain, Program, IsLawful}
 use Rattle.plai_theory.specs.Evaluation.{NameOf, answer_of, calls_of, join_of}
-use Rattle.plai_theory.specs.LegalWork.{WorkRow, Work, LogEntry, Evaluated, Grew, present_source, after_evaluating, after_growing, calls_now, after, no_work, after_all}
+use Rattle.plai_theory.specs.LegalWork.{
+  WorkRow,
+  Work,
+  LogEntry,
+  Evaluated,
+  Grew,
+  present_source,
+  after_evaluating,
+  after_growing,
+  calls_now,
+  after,
+  no_work,
+  after_all,
+}
 use Rattle.plai_theory.specs.Limits.{Limits, IsOverAt}
 use Rattle.plai_theory.proofs.Logs.{Inv}
 use Rattle.plai_theory.proofs.Near.{answer_low}
@@ -52,11 +91,13 @@ module _ (d : Domain) (g : Program d) (laws : IsLawful d g) (limits : Limits d) 
   rows = (after_all d g (no_work d) log).rows
 
   -- the source of the kept rows is that of the rows under work
-  same_source : (k : Keeping d) (open_pair : Option (ℕ × ℕ)) → IsLogged d g limits limit (no_work d) log k open_pair → kept_source d k.rows ≡ present_source d rows
+  same_source : (k : Keeping d) (open_pair : Option (ℕ × ℕ)) → IsLogged d g limits limit (no_work d) log k open_pair
+      → kept_source d k.rows ≡ present_source d rows
   same_source k open_pair logged = λ j p v. kept_answers d g laws limits limit log k open_pair logged p v j
 
   -- Theorem: a dirty pair is evaluated.
-  module _ (k new : Keeping d) (unmet left : ℕ → ℕ → Bool) (working : IsWorking d g limits limit (no_work d) log k None None unmet) (n i : ℕ) (r : WorkRow d) (at : item rows n ≡ Some r)
+  module _ (k new : Keeping d) (unmet left : ℕ → ℕ → Bool) (working : IsWorking d g limits limit (no_work d) log k None None unmet) (n i : ℕ) (r : WorkRow d)
+      (at : item rows n ≡ Some r)
       (c : d.Clause) (is_clause : item (g.clauses r.name.pred) i ≡ Some c) (is_dirty : k.dirty n (suc i) ≡ true)
       (within : IsOverAt d limits (kept_source d k.rows) c r.name.call → ⊥) (clears : Clears d k new n i)
       (others : (a m : ℕ) → (a ≡ n → m ≡ suc i → ⊥) → left a m ≡ unmet a m) (own : left n (suc i) ≡ false) (answer : Option d.Value) (called : List (NameOf d))
@@ -80,7 +121,8 @@ module _ (d : Domain) (g : Program d) (laws : IsLawful d g) (limits : Limits d) 
     recorded =
         let t : d.same_name r.name r.name ≡ true = laws.same_refl r.name in
         let u : nat_eq i i ≡ true = eq-eqb i i refl in
-        let v : calls_now d g rows r.name i ≡ calls_of d (present_source d rows) c r.name.call = ap (given [] (λ b. calls_of d (present_source d rows) b r.name.call)) is_clause in
+        let v : calls_now d g rows r.name i ≡ calls_of d (present_source d rows) c r.name.call =
+        ap (given [] (λ b. calls_of d (present_source d rows) b r.name.call)) is_clause in
         rw (t, u) (v ∙ ap (λ s. calls_of d s c r.name.call) (sym source) ∙ sym is_called)
 
     known : Inv d g rows (after_all d g (no_work d) log).last
@@ -104,7 +146,8 @@ module _ (d : Domain) (g : Program d) (laws : IsLawful d g) (limits : Limits d) 
               ∙ ap (λ s. answer_of d s c r.name.call) behind ∙ sym is_answer);
           fits = subst (λ (o : Option d.Value). UpTo (d.leq r.name.pred) o o) (sym (is_answer ∙ ap (λ s. answer_of d s c r.name.call) source))
               (left_at d g laws r.name.pred (answer_of d (present_source d rows) c r.name.call) _
-              (answer_low d g laws (present_source d rows) known.low r.name (known.value_names r.name r (found_at d g laws rows working.logged.keeps.own n r at)) c (item_in (g.clauses r.name.pred) i c is_clause)));
+              (answer_low d g laws (present_source d rows) known.low r.name
+              (known.value_names r.name r (found_at d g laws rows working.logged.keeps.own n r at)) c (item_in (g.clauses r.name.pred) i c is_clause)));
         }
 
   -- Theorem: the calls of that pair are set.
@@ -116,10 +159,12 @@ module _ (d : Domain) (g : Program d) (laws : IsLawful d g) (limits : Limits d) 
         pair = has.pair;
         evaluated =
             record {
-              logged = sets d g laws limits limit (no_work d) log k new n i has.evaluated.logged has.pair.row has.pair.at has.pair.clause has.pair.is_clause found set
+              logged = sets d g laws limits limit (no_work d) log k new n i has.evaluated.logged has.pair.row has.pair.at
+                  has.pair.clause has.pair.is_clause found set
                   (λ j t. let (y, inside, named) = linked.sound j t in is_named d k.rows j y named)
                   (λ j y named. subst (λ ns. (found j ≡ true) ↔ IsIn y ns) (sym has.pair.calls)
-                  (links_right d k.rows called left found false linked (one_row d g laws limits limit log k (Some (n, i)) has.evaluated.logged) absent j y named));
+                  (links_right d k.rows called left found false linked (one_row d g laws limits limit log k (Some (n, i)) has.evaluated.logged) absent
+                  j y named));
               last = has.evaluated.last;
               met = has.evaluated.met;
               full = has.evaluated.full;
@@ -129,8 +174,10 @@ module _ (d : Domain) (g : Program d) (laws : IsLawful d g) (limits : Limits d) 
       }
 
   -- Theorem: where the join with its answer is the row's answer, no growth is due.
-  pub settles : (k : Keeping d) (open_pair : Option (ℕ × ℕ)) (unmet : ℕ → ℕ → Bool) (n i : ℕ) (called : List (NameOf d)) (answer : Option d.Value) → (has : HasEvaluated d g limits limit log k open_pair unmet n i called answer)
-      → join_of d (present_source d rows has.pair.row.name.pred has.pair.row.name.call) answer ≡ present_source d rows has.pair.row.name.pred has.pair.row.name.call
+  pub settles : (k : Keeping d) (open_pair : Option (ℕ × ℕ)) (unmet : ℕ → ℕ → Bool) (n i : ℕ) (called : List (NameOf d)) (answer : Option d.Value)
+      → (has : HasEvaluated d g limits limit log k open_pair unmet n i called answer)
+      → join_of d (present_source d rows has.pair.row.name.pred has.pair.row.name.call) answer
+      ≡ present_source d rows has.pair.row.name.pred has.pair.row.name.call
       → IsWaiting d g limits limit log k open_pair unmet n i called
   settles k open_pair unmet n i called answer has same =
       record {
@@ -139,8 +186,10 @@ module _ (d : Domain) (g : Program d) (laws : IsLawful d g) (limits : Limits d) 
       }
 
   -- Theorem: the growth that is due is done.
-  pub grows : (k new : Keeping d) (unmet : ℕ → ℕ → Bool) (n i : ℕ) (called : List (NameOf d)) (answer a : Option d.Value) → (has : HasEvaluated d g limits limit log k None unmet n i called answer)
-      → a ≡ join_of d (present_source d rows has.pair.row.name.pred has.pair.row.name.call) answer → a ≢ present_source d rows has.pair.row.name.pred has.pair.row.name.call
+  pub grows : (k new : Keeping d) (unmet : ℕ → ℕ → Bool) (n i : ℕ) (called : List (NameOf d)) (answer a : Option d.Value)
+      → (has : HasEvaluated d g limits limit log k None unmet n i called answer)
+      → a ≡ join_of d (present_source d rows has.pair.row.name.pred has.pair.row.name.call) answer
+      → a ≢ present_source d rows has.pair.row.name.pred has.pair.row.name.call
       → Answers d k new n a → IsWaiting d g limits limit (log ++ Grew has.pair.row.name a ∷ []) new None unmet n i called
   grows k new unmet n i called answer a has is other answers =
       let r = has.pair.row in
@@ -149,7 +198,8 @@ module _ (d : Domain) (g : Program d) (laws : IsLawful d g) (limits : Limits d) 
         pair =
             record {
               row = after_growing d r.name a r;
-              at = ap (λ (w : Work d). item w.rows n) (after_push d g limit (no_work d) log (Grew r.name a)) ∙ item_map (after_growing d r.name a) rows n ∙ ap (given None (λ q. Some (after_growing d r.name a q))) has.pair.at;
+              at = ap (λ (w : Work d). item w.rows n) (after_push d g limit (no_work d) log (Grew r.name a)) ∙ item_map (after_growing d r.name a) rows n
+                  ∙ ap (given None (λ q. Some (after_growing d r.name a q))) has.pair.at;
               clause = has.pair.clause;
               is_clause = has.pair.is_clause;
               calls = has.pair.calls;
@@ -157,7 +207,8 @@ module _ (d : Domain) (g : Program d) (laws : IsLawful d g) (limits : Limits d) 
       }
 
   -- the pair is open again while rows are made for it
-  pub reopens : (k : Keeping d) (unmet : ℕ → ℕ → Bool) (n i : ℕ) (called : List (NameOf d)) → IsWaiting d g limits limit log k None unmet n i called → IsWaiting d g limits limit log k (Some (n, i)) unmet n i called
+  pub reopens : (k : Keeping d) (unmet : ℕ → ℕ → Bool) (n i : ℕ) (called : List (NameOf d)) → IsWaiting d g limits limit log k None unmet n i called
+      → IsWaiting d g limits limit log k (Some (n, i)) unmet n i called
   reopens k unmet n i called waiting =
       record {
         working =

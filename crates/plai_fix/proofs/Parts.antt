@@ -1,5 +1,44 @@
 -- Parts of steps: joins of answers, and what is told of a row by its name.
-use Rattle.std.proofs.Common.{◌≡◌, ℕ, zero, suc, ◌-◌, ◌≤◌, Bool, true, false, cond, not, ◌&&◌, nat_eq, nat_lt, eqb-true, count_by, List, [], ◌∷◌, slice_get, Option, Some, None, Result, Ok, Err, OnOk, OnErr, IfOk, IfErr, IfSome, IfNone, sym, refl, ap, ◌∙◌, subst, arith}
+use Rattle.std.proofs.Common.{
+  ◌≡◌,
+  ℕ,
+  zero,
+  suc,
+  ◌-◌,
+  ◌≤◌,
+  Bool,
+  true,
+  false,
+  cond,
+  not,
+  ◌&&◌,
+  nat_eq,
+  nat_lt,
+  eqb-true,
+  count_by,
+  List,
+  [],
+  ◌∷◌,
+  slice_get,
+  Option,
+  Some,
+  None,
+  Result,
+  Ok,
+  Err,
+  OnOk,
+  OnErr,
+  IfOk,
+  IfErr,
+  IfSome,
+  IfNone,
+  sym,
+  refl,
+  ap,
+  ◌∙◌,
+  subst,
+  arith,
+}
 use Rattle.std.proofs.lemmas.Bool.{eq-eqb}
 use Rattle.std.specs.Option.{option_map}
 use Rattle.std.specs.List.{list_any}
@@ -64,10 +103,12 @@ join_both d a b = refl
 
 module _ {V : Type 0} (value_of : V → Abs) (p : PlainDomain) (had answer : Option V) where
   pub kept_none : answer ≡ None → join_of (as_domain p) (option_map value_of had) (option_map value_of answer) ≡ option_map value_of had
-  kept_none e = ap (λ (o : Option V). join_of (as_domain p) (option_map value_of had) (option_map value_of o)) e ∙ join_none (as_domain p) (option_map value_of had)
+  kept_none e = ap (λ (o : Option V). join_of (as_domain p) (option_map value_of had) (option_map value_of o)) e
+      ∙ join_none (as_domain p) (option_map value_of had)
 
   pub grown_first : (v : V) → had ≡ None → answer ≡ Some v
-      → (◌≡◌ {A = Option Abs} (Some (value_of v)) (join_of (as_domain p) (option_map value_of had) (option_map value_of answer))) × (◌≡◌ {A = Option Abs} (Some (value_of v)) (option_map value_of had) → ⊥)
+      → (◌≡◌ {A = Option Abs} (Some (value_of v)) (join_of (as_domain p) (option_map value_of had) (option_map value_of answer)))
+      × (◌≡◌ {A = Option Abs} (Some (value_of v)) (option_map value_of had) → ⊥)
   grown_first v e f =
       let h : option_map value_of had ≡ None = ap (option_map value_of) e in
       let a : option_map value_of answer ≡ Some (value_of v) = ap (option_map value_of) f in (
@@ -83,13 +124,15 @@ module _ {V : Type 0} (value_of : V → Abs) (p : PlainDomain) (had answer : Opt
         ∙ join_both (as_domain p) (value_of a) (value_of b)
 
     pub grown_later : (v : V) → (value_of v ≡ p.join (value_of a) (value_of b)) × (value_of v ≡ value_of a → ⊥)
-        → (◌≡◌ {A = Option Abs} (Some (value_of v)) (join_of (as_domain p) (option_map value_of had) (option_map value_of answer))) × (◌≡◌ {A = Option Abs} (Some (value_of v)) (option_map value_of had) → ⊥)
+        → (◌≡◌ {A = Option Abs} (Some (value_of v)) (join_of (as_domain p) (option_map value_of had) (option_map value_of answer)))
+        × (◌≡◌ {A = Option Abs} (Some (value_of v)) (option_map value_of had) → ⊥)
     grown_later v h = (
       ap Some h.0 ∙ sym join_is,
       λ s. h.1 (let l : ◌≡◌ {A = Option Abs} (Some (value_of v)) (Some (value_of a)) = s ∙ ap (option_map value_of) e in cc),
     )
 
-    pub kept_later : p.join (value_of a) (value_of b) ≡ value_of a → join_of (as_domain p) (option_map value_of had) (option_map value_of answer) ≡ option_map value_of had
+    pub kept_later : p.join (value_of a) (value_of b) ≡ value_of a
+        → join_of (as_domain p) (option_map value_of had) (option_map value_of answer) ≡ option_map value_of had
     kept_later h = join_is ∙ ap Some h ∙ sym (ap (option_map value_of) e)
 
 module _ {W : Type 0} where
@@ -98,7 +141,8 @@ module _ {W : Type 0} where
   name_at (q ∷ rows) zero r e = let same : q ≡ r = cc in ap (λ (z : TableRow W). Some z.name) same
   name_at (q ∷ rows) (suc n) r e = name_at rows n r e
 
-  pub one_name : (rows : List (TableRow W)) (n : ℕ) (r : TableRow W) (name : Key W) → slice_get rows n ≡ Some r → slice_get (names_of rows) n ≡ Some name → r.name ≡ name
+  pub one_name : (rows : List (TableRow W)) (n : ℕ) (r : TableRow W) (name : Key W) → slice_get rows n ≡ Some r → slice_get (names_of rows) n ≡ Some name
+      → r.name ≡ name
   one_name rows n r name e f = let s : Some r.name ≡ Some name = sym (name_at rows n r e) ∙ f in cc
 
 pub clears_from : (d : Domain) (rows : List (KeptRow d)) (dirty new : ℕ → ℕ → Bool) (calls called : ℕ → ℕ → ℕ → Bool) (n number : ℕ) → 1 ≤ number
@@ -125,8 +169,10 @@ sets_from d rows dirty new calls called n number set h sets same =
     record {
       rows = refl;
       dirty = same;
-      own = λ j. ap (λ z. called n z j) e ∙ sets n number j ∙ (let t : nat_eq n n ≡ true = eq-eqb n n refl in let u : nat_eq number number ≡ true = eq-eqb number number refl in rw (t, u) refl);
+      own = λ j. ap (λ z. called n z j) e ∙ sets n number j
+          ∙ (let t : nat_eq n n ≡ true = eq-eqb n n refl in let u : nat_eq number number ≡ true = eq-eqb number number refl in rw (t, u) refl);
       others = λ a m j other.
-          let t : (nat_eq a n && nat_eq m number) ≡ false = same_pair (nat_eq a n) (nat_eq m number) (λ u v. other (eqb-true a n u) (eqb-true m number v ∙ sym e)) in
+          let t : (nat_eq a n && nat_eq m number) ≡ false =
+          same_pair (nat_eq a n) (nat_eq m number) (λ u v. other (eqb-true a n u) (eqb-true m number v ∙ sym e)) in
           sets a m j ∙ rw t refl;
     }

@@ -1,5 +1,34 @@
 -- Rows made for the names that a pair called, and for entries, and where the pair is closed.
-use Rattle.std.proofs.Common.{◌≡◌, ◌⊎◌, ◌↔◌, ℕ, suc, ◌<◌, ◌≤◌, Bool, true, false, nat_eq, ◌&&◌, ◌||◌, List, [], ◌∷◌, ◌++◌, Option, Some, None, sym, refl, ap, ◌∙◌, subst, inl, inr, arith}
+use Rattle.std.proofs.Common.{
+  ◌≡◌,
+  ◌⊎◌,
+  ◌↔◌,
+  ℕ,
+  suc,
+  ◌<◌,
+  ◌≤◌,
+  Bool,
+  true,
+  false,
+  nat_eq,
+  ◌&&◌,
+  ◌||◌,
+  List,
+  [],
+  ◌∷◌,
+  ◌++◌,
+  Option,
+  Some,
+  None,
+  sym,
+  refl,
+  ap,
+  ◌∙◌,
+  subst,
+  inl,
+  inr,
+  arith,
+}
 use Rattle.plai_theory.specs.Words.{IsIn, item}
 use Rattle.plai_theory.specs.Domain.{Domain, Program, IsLawful}
 use Rattle.plai_theory.specs.Evaluation.{NameOf}
@@ -24,8 +53,10 @@ module _ (d : Domain) (g : Program d) (laws : IsLawful d g) (limits : Limits d) 
   rows = (after_all d g (no_work d) log).rows
 
   -- Theorem: a called name without a row gets one.
-  pub makes_called : (k new : Keeping d) (unmet : ℕ → ℕ → Bool) (n i : ℕ) (called : List (NameOf d)) → IsWaiting d g limits limit log k (Some (n, i)) unmet n i called → (y : NameOf d) → IsIn y called
-      → ((j : ℕ) → IsNamed d k.rows j y → ⊥) → kept_live d k.rows < limit → Makes d g k new y → IsWaiting d g limits limit (log ++ Made y ∷ []) new (Some (n, i)) unmet n i called
+  pub makes_called : (k new : Keeping d) (unmet : ℕ → ℕ → Bool) (n i : ℕ) (called : List (NameOf d))
+      → IsWaiting d g limits limit log k (Some (n, i)) unmet n i called → (y : NameOf d) → IsIn y called
+      → ((j : ℕ) → IsNamed d k.rows j y → ⊥) → kept_live d k.rows < limit → Makes d g k new y
+      → IsWaiting d g limits limit (log ++ Made y ∷ []) new (Some (n, i)) unmet n i called
   makes_called k new unmet n i called waiting y inside absent room makes =
       let r = waiting.pair.row in
       let keeps = waiting.working.logged.keeps in
@@ -56,35 +87,43 @@ module _ (d : Domain) (g : Program d) (laws : IsLawful d g) (limits : Limits d) 
       }
 
   -- Theorem: an entry's name without a row gets one.
-  pub makes_entry : (k new : Keeping d) (unmet : ℕ → ℕ → Bool) → IsWorking d g limits limit (no_work d) log k None None unmet → (y : NameOf d) → IsIn y g.entries
-      → ((j : ℕ) → IsNamed d k.rows j y → ⊥) → kept_live d k.rows < limit → Makes d g k new y → IsWorking d g limits limit (no_work d) (log ++ Made y ∷ []) new None None unmet
+  pub makes_entry : (k new : Keeping d) (unmet : ℕ → ℕ → Bool) → IsWorking d g limits limit (no_work d) log k None None unmet → (y : NameOf d)
+      → IsIn y g.entries
+      → ((j : ℕ) → IsNamed d k.rows j y → ⊥) → kept_live d k.rows < limit → Makes d g k new y
+      → IsWorking d g limits limit (no_work d) (log ++ Made y ∷ []) new None None unmet
   makes_entry k new unmet working y inside absent room makes =
       let same : live_count d rows ≡ kept_live d k.rows = same_live d g laws k None rows working.logged.keeps in
       makes_row d g laws limits limit (no_work d) log k new None None unmet working (λ p e. e) y (inl inside)
       (absent_find d g laws k None rows working.logged.keeps y absent) (omega arith) makes
 
   -- the calls of the pair are the rows of the names that have one
-  closes : (k new : Keeping d) (unmet : ℕ → ℕ → Bool) (n i : ℕ) (called : List (NameOf d)) (found : ℕ → Bool) (full : Bool) → IsWaiting d g limits limit log k (Some (n, i)) unmet n i called
+  closes : (k new : Keeping d) (unmet : ℕ → ℕ → Bool) (n i : ℕ) (called : List (NameOf d)) (found : ℕ → Bool) (full : Bool)
+      → IsWaiting d g limits limit log k (Some (n, i)) unmet n i called
       → SetsCalls d k new n i found → Links d k.rows called found [] full → IsLogged d g limits limit (no_work d) log new None
   closes k new unmet n i called found full waiting set linked =
-      sets d g laws limits limit (no_work d) log k new n i waiting.working.logged waiting.pair.row waiting.pair.at waiting.pair.clause waiting.pair.is_clause found set
+      sets d g laws limits limit (no_work d) log k new n i waiting.working.logged waiting.pair.row waiting.pair.at
+      waiting.pair.clause waiting.pair.is_clause found set
       (λ j t. let (y, inside, named) = linked.sound j t in is_named d k.rows j y named)
       (λ j y named. subst (λ ns. (found j ≡ true) ↔ IsIn y ns) (sym waiting.pair.calls)
       (links_right d k.rows called [] found full linked (one_row d g laws limits limit log k (Some (n, i)) waiting.working.logged) (λ z e. absurd e) j y named))
 
   -- Theorem: where each called name has a row, the pair waits no more.
-  pub meets : (k : Keeping d) (open_pair : Option (ℕ × ℕ)) (unmet : ℕ → ℕ → Bool) (n i : ℕ) (called : List (NameOf d)) (found : ℕ → Bool) → IsWaiting d g limits limit log k open_pair unmet n i called
+  pub meets : (k : Keeping d) (open_pair : Option (ℕ × ℕ)) (unmet : ℕ → ℕ → Bool) (n i : ℕ) (called : List (NameOf d)) (found : ℕ → Bool)
+      → IsWaiting d g limits limit log k open_pair unmet n i called
       → Links d k.rows called found [] false → IsMet d g None unmet rows
   meets k open_pair unmet n i called found waiting linked =
-      waits_no_more d g laws rows n i unmet waiting.working.met waiting.pair.row waiting.pair.at (λ y inside. at y (linked.whole y (subst (IsIn y) waiting.pair.calls inside)))
+      waits_no_more d g laws rows n i unmet waiting.working.met waiting.pair.row waiting.pair.at
+      (λ y inside. at y (linked.whole y (subst (IsIn y) waiting.pair.calls inside)))
     where
       at : (y : NameOf d) → ((j : ℕ) × (found j ≡ true) × IsNamed d k.rows j y) ⊎ (⊥ ⊎ ((false ≡ true) × ((j : ℕ) → IsNamed d k.rows j y → ⊥)))
           → (q : WorkRow d) × (find d rows y ≡ Some q) × (q.live ≡ true)
-      at y (inl (j, t, named)) = let (q, f, place) = named_find d g laws k open_pair rows waiting.working.logged.keeps j y named in (q, f, waiting.working.logged.live j q place)
+      at y (inl (j, t, named)) = let (q, f, place) = named_find d g laws k open_pair rows waiting.working.logged.keeps j y named in
+          (q, f, waiting.working.logged.live j q place)
       at y (inr (inl e)) = absurd e
       at y (inr (inr h)) = let l : false ≡ true = h.0 in cc
 
-  pub ends_met : (k : Keeping d) (unmet : ℕ → ℕ → Bool) (n i : ℕ) (called : List (NameOf d)) (found : ℕ → Bool) → IsWaiting d g limits limit log k None unmet n i called
+  pub ends_met : (k : Keeping d) (unmet : ℕ → ℕ → Bool) (n i : ℕ) (called : List (NameOf d)) (found : ℕ → Bool)
+      → IsWaiting d g limits limit log k None unmet n i called
       → Links d k.rows called found [] false → IsWorking d g limits limit (no_work d) log k None None unmet
   ends_met k unmet n i called found waiting linked =
       record {
@@ -94,7 +133,8 @@ module _ (d : Domain) (g : Program d) (laws : IsLawful d g) (limits : Limits d) 
         full = waiting.working.full;
       }
 
-  pub closes_met : (k new : Keeping d) (unmet : ℕ → ℕ → Bool) (n i : ℕ) (called : List (NameOf d)) (found : ℕ → Bool) → IsWaiting d g limits limit log k (Some (n, i)) unmet n i called
+  pub closes_met : (k new : Keeping d) (unmet : ℕ → ℕ → Bool) (n i : ℕ) (called : List (NameOf d)) (found : ℕ → Bool)
+      → IsWaiting d g limits limit log k (Some (n, i)) unmet n i called
       → SetsCalls d k new n i found → Links d k.rows called found [] false → IsWorking d g limits limit (no_work d) log new None None unmet
   closes_met k new unmet n i called found waiting set linked =
       record {
@@ -105,8 +145,10 @@ module _ (d : Domain) (g : Program d) (laws : IsLawful d g) (limits : Limits d) 
       }
 
   -- Theorem: where one has none and the limit is met, the pair is marked as unmet.
-  pub closes_unmet : (k new : Keeping d) (unmet marked : ℕ → ℕ → Bool) (n i : ℕ) (called : List (NameOf d)) (found : ℕ → Bool) → IsWaiting d g limits limit log k (Some (n, i)) unmet n i called
-      → SetsCalls d k new n i found → Links d k.rows called found [] true → limit ≤ kept_live d k.rows → ((a m : ℕ) → marked a m ≡ ((nat_eq a n && nat_eq m (suc i)) || unmet a m))
+  pub closes_unmet : (k new : Keeping d) (unmet marked : ℕ → ℕ → Bool) (n i : ℕ) (called : List (NameOf d)) (found : ℕ → Bool)
+      → IsWaiting d g limits limit log k (Some (n, i)) unmet n i called
+      → SetsCalls d k new n i found → Links d k.rows called found [] true → limit ≤ kept_live d k.rows
+      → ((a m : ℕ) → marked a m ≡ ((nat_eq a n && nat_eq m (suc i)) || unmet a m))
       → IsWorking d g limits limit (no_work d) log new None None marked
   closes_unmet k new unmet marked n i called found waiting set linked no_room marks =
       let r = waiting.pair.row in
@@ -124,7 +166,8 @@ module _ (d : Domain) (g : Program d) (laws : IsLawful d g) (limits : Limits d) 
       }
 
   -- Theorem: where no pair is dirty and none is unmet, and each entry has a row, the log ends.
-  pub ends_here : (k : Keeping d) (unmet : ℕ → ℕ → Bool) → IsWorking d g limits limit (no_work d) log k None None unmet → ((n m : ℕ) → k.dirty n m ≡ false) → ((n m : ℕ) → unmet n m ≡ false)
+  pub ends_here : (k : Keeping d) (unmet : ℕ → ℕ → Bool) → IsWorking d g limits limit (no_work d) log k None None unmet → ((n m : ℕ) → k.dirty n m ≡ false)
+      → ((n m : ℕ) → unmet n m ≡ false)
       → ((x : NameOf d) → IsIn x g.entries → (j : ℕ) × IsNamed d k.rows j x) → IsEnd d g (after_all d g (no_work d) log)
   ends_here k unmet working clean free entries =
       ends d g laws limits limit (no_work d) log k unmet working clean free
@@ -134,7 +177,8 @@ module _ (d : Domain) (g : Program d) (laws : IsLawful d g) (limits : Limits d) 
       (q, f, working.logged.live j q place))
 
   -- Theorem: where no pair is dirty, an entry has no row and the limit is met, the log stops there.
-  pub stops_entry : (k : Keeping d) (unmet : ℕ → ℕ → Bool) → IsWorking d g limits limit (no_work d) log k None None unmet → ((n m : ℕ) → k.dirty n m ≡ false) → (x : NameOf d) → IsIn x g.entries
+  pub stops_entry : (k : Keeping d) (unmet : ℕ → ℕ → Bool) → IsWorking d g limits limit (no_work d) log k None None unmet → ((n m : ℕ) → k.dirty n m ≡ false)
+      → (x : NameOf d) → IsIn x g.entries
       → ((j : ℕ) → IsNamed d k.rows j x → ⊥) → limit ≤ kept_live d k.rows → IsStoppedLog d g limit (no_work d) log x × (live_count d rows ≡ limit)
   stops_entry k unmet working clean x i absent no_room =
       let same : live_count d rows ≡ kept_live d k.rows = same_live d g laws k None rows working.logged.keeps in

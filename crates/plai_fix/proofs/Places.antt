@@ -1,5 +1,30 @@
 -- Rows under work by their numbers and by their names.
-use Rattle.std.proofs.Common.{◌≡◌, ℕ, zero, suc, true, false, cond, List, [], ◌∷◌, ◌++◌, map, length, Option, Some, None, IsSome, sym, refl, ap, ◌∙◌, subst, inl, inr}
+use Rattle.std.proofs.Common.{
+  ◌≡◌,
+  ℕ,
+  zero,
+  suc,
+  true,
+  false,
+  cond,
+  List,
+  [],
+  ◌∷◌,
+  ◌++◌,
+  map,
+  length,
+  Option,
+  Some,
+  None,
+  IsSome,
+  sym,
+  refl,
+  ap,
+  ◌∙◌,
+  subst,
+  inl,
+  inr,
+}
 use Rattle.plai_theory.specs.Words.{IsIn, given, item, HasSome}
 use Rattle.plai_theory.specs.Domain.{Domain, Program, IsLawful}
 use Rattle.plai_theory.specs.Evaluation.{NameOf, name_of}
@@ -23,7 +48,8 @@ push_before (z ∷ xs) x y zero e = e
 push_before (z ∷ xs) x y (suc n) e = push_before xs x y n e
 
 -- a place of a longer list is one of the shorter list, or the last
-pub push_cases : {A : Type 0} {P : Type 0} (xs : List A) (x y : A) (n : ℕ) → item (xs ++ x ∷ []) n ≡ Some y → (item xs n ≡ Some y → P) → (n ≡ length xs → x ≡ y → P) → P
+pub push_cases : {A : Type 0} {P : Type 0} (xs : List A) (x y : A) (n : ℕ) → item (xs ++ x ∷ []) n ≡ Some y → (item xs n ≡ Some y → P)
+    → (n ≡ length xs → x ≡ y → P) → P
 push_cases [] x y zero e h k = k refl cc
 push_cases [] x y (suc n) e h k = cc
 push_cases (z ∷ xs) x y zero e h k = h e
@@ -58,7 +84,8 @@ both_map R S f (Some x) None h k = absurd h
 both_map R S f (Some x) (Some y) h k = k x y refl refl h
 
 -- one more on both sides
-pub both_push : {A B : Type 0} (R : ℕ → A → B → Type 0) (xs : List A) (ys : List B) (x : A) (y : B) → ((a : ℕ) → AtBoth (R a) (item xs a) (item ys a)) → R (length xs) x y
+pub both_push : {A B : Type 0} (R : ℕ → A → B → Type 0) (xs : List A) (ys : List B) (x : A) (y : B) → ((a : ℕ) → AtBoth (R a) (item xs a) (item ys a))
+    → R (length xs) x y
     → (a : ℕ) → AtBoth (R a) (item (xs ++ x ∷ []) a) (item (ys ++ y ∷ []) a)
 both_push R [] [] x y h l zero = l
 both_push R [] [] x y h l (suc a) = tt
@@ -96,16 +123,19 @@ module _ (d : Domain) (g : Program d) (laws : IsLawful d g) where
       (λ t. rw t (found_at rows own.1 n r e))
 
   -- equal names stand at one place
-  pub one_place : (rows : List (WorkRow d)) → HaveOwnNames d rows → (m n : ℕ) (q r : WorkRow d) → item rows m ≡ Some q → item rows n ≡ Some r → q.name ≡ r.name → m ≡ n
+  pub one_place : (rows : List (WorkRow d)) → HaveOwnNames d rows → (m n : ℕ) (q r : WorkRow d) → item rows m ≡ Some q → item rows n ≡ Some r
+      → q.name ≡ r.name → m ≡ n
   one_place [] own m n q r e f s = cc
   one_place (z ∷ rows) own zero zero q r e f s = refl
   one_place (z ∷ rows) own zero (suc n) q r e f s =
       let a : z ≡ q = cc in
-      let k : IsSome (find d rows z.name) = subst (λ (y : NameOf d). IsSome (find d rows y)) (sym (ap (λ (y : WorkRow d). y.name) a ∙ s)) (some_found rows n r f) in
+      let k : IsSome (find d rows z.name) = subst (λ (y : NameOf d). IsSome (find d rows y)) (sym (ap (λ (y : WorkRow d). y.name) a ∙ s))
+      (some_found rows n r f) in
       let c : IsSome {T = WorkRow d} None = subst IsSome own.0 k in cc
   one_place (z ∷ rows) own (suc m) zero q r e f s =
       let a : z ≡ r = cc in
-      let k : IsSome (find d rows z.name) = subst (λ (y : NameOf d). IsSome (find d rows y)) (sym (ap (λ (y : WorkRow d). y.name) a ∙ sym s)) (some_found rows m q e) in
+      let k : IsSome (find d rows z.name) = subst (λ (y : NameOf d). IsSome (find d rows y)) (sym (ap (λ (y : WorkRow d). y.name) a ∙ sym s))
+      (some_found rows m q e) in
       let c : IsSome {T = WorkRow d} None = subst IsSome own.0 k in cc
   one_place (z ∷ rows) own (suc m) (suc n) q r e f s = ap suc (one_place rows own.1 m n q r e f s)
 
@@ -139,7 +169,8 @@ module _ (d : Domain) (g : Program d) (laws : IsLawful d g) where
       (λ t. let c : Some q ≡ None = rw t at e in cc)
       (λ t. (
         push_none q.name own.0 (by_test (d.same_name r.name q.name)
-            (λ u. let s : q.name ≡ r.name = sym (laws.same_true r.name q.name u) in let v : d.same_name q.name r.name ≡ true = subst (λ (z : NameOf d). d.same_name q.name z ≡ true) s (laws.same_refl q.name) in let c : true ≡ false = sym v ∙ t in cc)
+            (λ u. let s : q.name ≡ r.name = sym (laws.same_true r.name q.name u) in let v : d.same_name q.name r.name ≡ true =
+            subst (λ (z : NameOf d). d.same_name q.name z ≡ true) s (laws.same_refl q.name) in let c : true ≡ false = sym v ∙ t in cc)
             (λ u. u)),
         own_push rows r own.1 (rw t at e),
       ))
@@ -152,8 +183,10 @@ module _ (d : Domain) (g : Program d) (laws : IsLawful d g) where
           none_push (z ∷ xs) e = by_test (d.same_name z.name x) (λ t. let c : Some z ≡ None = rw t at e in cc) (λ t. rw t (none_push xs (rw t at e)))
 
   -- Theorem: kept rows answer as the rows under work that they keep.
-  pub same_source : (kept : List (KeptRow d)) (rows : List (WorkRow d)) (R : ℕ → KeptRow d → WorkRow d → Type 0) → ((a : ℕ) → AtBoth (R a) (item kept a) (item rows a))
-      → ((a : ℕ) (k : KeptRow d) (r : WorkRow d) → R a k r → (k.name ≡ r.name) × (k.answer ≡ r.answer)) → (p : d.Pred) (v : d.Value) → kept_source d kept p v ≡ present_source d rows p v
+  pub same_source : (kept : List (KeptRow d)) (rows : List (WorkRow d)) (R : ℕ → KeptRow d → WorkRow d → Type 0)
+      → ((a : ℕ) → AtBoth (R a) (item kept a) (item rows a))
+      → ((a : ℕ) (k : KeptRow d) (r : WorkRow d) → R a k r → (k.name ≡ r.name) × (k.answer ≡ r.answer)) → (p : d.Pred) (v : d.Value)
+      → kept_source d kept p v ≡ present_source d rows p v
   same_source [] [] R h same p v = refl
   same_source [] (r ∷ rows) R h same p v = absurd (h zero)
   same_source (k ∷ kept) [] R h same p v = absurd (h zero)
@@ -162,4 +195,5 @@ module _ (d : Domain) (g : Program d) (laws : IsLawful d g) where
       let s : d.same_name k.name (name_of d p v) ≡ d.same_name r.name (name_of d p v) = ap (λ x. d.same_name x (name_of d p v)) n in
       by_test (d.same_name r.name (name_of d p v))
       (λ t. let u : d.same_name k.name (name_of d p v) ≡ true = s ∙ t in rw (u, t) a)
-      (λ t. let u : d.same_name k.name (name_of d p v) ≡ false = s ∙ t in rw (u, t) (same_source kept rows (λ b. R (suc b)) (λ b. h (suc b)) (λ b. same (suc b)) p v))
+      (λ t. let u : d.same_name k.name (name_of d p v) ≡ false = s ∙ t in
+      rw (u, t) (same_source kept rows (λ b. R (suc b)) (λ b. h (suc b)) (λ b. same (suc b)) p v))

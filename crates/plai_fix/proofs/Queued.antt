@@ -1,5 +1,38 @@
 -- Rows that wait, as they are put in and taken out.
-use Rattle.std.proofs.Common.{◌≡◌, ◌⊎◌, ℕ, ◌+◌, ◌<◌, Bool, true, false, ◌&&◌, ◌||◌, nat_eq, eqb-true, List, [], ◌∷◌, length, take, get_or, slice_index_or, Option, Some, None, IfSome, IfNone, sym, refl, ap, ◌∙◌, subst, inl, inr, arith}
+use Rattle.std.proofs.Common.{
+  ◌≡◌,
+  ◌⊎◌,
+  ℕ,
+  ◌+◌,
+  ◌<◌,
+  Bool,
+  true,
+  false,
+  ◌&&◌,
+  ◌||◌,
+  nat_eq,
+  eqb-true,
+  List,
+  [],
+  ◌∷◌,
+  length,
+  take,
+  get_or,
+  slice_index_or,
+  Option,
+  Some,
+  None,
+  IfSome,
+  IfNone,
+  sym,
+  refl,
+  ap,
+  ◌∙◌,
+  subst,
+  inl,
+  inr,
+  arith,
+}
 use Rattle.std.specs.List.{list_any, Contains}
 use Rattle.std.specs.List.Sorted.{IsPermutation}
 use Rattle.std.proofs.lemmas.List.Elements.{Contains-append_left, Contains-append_right, Contains-append_cases, Contains-push, Contains-push_cases}
@@ -18,7 +51,8 @@ no_contains : (n : ℕ) → Contains [] n → ⊥
 no_contains n h = let l = h.1 in absurd (omega arith)
 
 -- a row that has no dirty pair is taken out
-pub popped : (dirty : ℕ → ℕ → Bool) (old new : List ℕ) (x : ℕ) → IsQueued dirty old → IsPermutation old (x ∷ new) → ((m : ℕ) → dirty x m ≡ false) → IsQueued dirty new
+pub popped : (dirty : ℕ → ℕ → Bool) (old new : List ℕ) (x : ℕ) → IsQueued dirty old → IsPermutation old (x ∷ new) → ((m : ℕ) → dirty x m ≡ false)
+    → IsQueued dirty new
 popped dirty old new x queued perm clean n m e = at (Contains-append_cases (x ∷ []) new n (Contains-permutation old (x ∷ new) n perm (queued n m e)))
   where
     is_row : Contains (x ∷ []) n ⊎ Contains new n → Contains [] n ⊎ (x ≡ n) → Contains new n
@@ -44,15 +78,18 @@ or_cases : {P : Type 0} (p q : Bool) → (p || q) ≡ true → (p ≡ true → P
 or_cases true q e h k = h refl
 or_cases false q e h k = k e
 
-pub rows_more : (pairs : List (ℕ × ℕ)) (i : ℕ) (d : ℕ × ℕ) (old new : List ℕ) → i < length pairs → ((n m : ℕ) → list_any (is_pair n m) (take i pairs) ≡ true → Contains old n)
-    → Contains new (get_or pairs i d).0 → ((n : ℕ) → Contains old n → Contains new n) → (n m : ℕ) → list_any (is_pair n m) (take (i + 1) pairs) ≡ true → Contains new n
+pub rows_more : (pairs : List (ℕ × ℕ)) (i : ℕ) (d : ℕ × ℕ) (old new : List ℕ) → i < length pairs
+    → ((n m : ℕ) → list_any (is_pair n m) (take i pairs) ≡ true → Contains old n)
+    → Contains new (get_or pairs i d).0 → ((n : ℕ) → Contains old n → Contains new n) → (n m : ℕ) → list_any (is_pair n m) (take (i + 1) pairs) ≡ true
+    → Contains new n
 rows_more pairs i d old new h before own others n m e =
     or_cases (list_any (is_pair n m) (take i pairs)) (is_pair n m (get_or pairs i d)) (sym (list_any_more (is_pair n m) pairs i d h) ∙ e)
     (λ t. others n (before n m t))
     (λ t. subst (Contains new) (sym (eqb-true n (get_or pairs i d).0 (first (nat_eq n (get_or pairs i d).0) (nat_eq m (get_or pairs i d).1) t))) own)
 
 -- the first row is taken out, which has no dirty pair
-pub popped_first : (dirty : ℕ → ℕ → Bool) (old new : List ℕ) (result : Option ℕ) (row : ℕ) → IsQueued dirty old → row ≡ slice_index_or old 0 row → IfSome result (λ x. x ≡ slice_index_or old 0 x)
+pub popped_first : (dirty : ℕ → ℕ → Bool) (old new : List ℕ) (result : Option ℕ) (row : ℕ) → IsQueued dirty old → row ≡ slice_index_or old 0 row
+    → IfSome result (λ x. x ≡ slice_index_or old 0 x)
     → IfSome result (λ x. IsPermutation old (x ∷ new)) → IfNone result (new ≡ old) → ((m : ℕ) → dirty row m ≡ false) → IsQueued dirty new
 popped_first dirty old new None row queued e f perm same clean = subst (IsQueued dirty) (sym same) queued
 popped_first dirty [] new (Some x) row queued e f perm same clean = λ n m t. absurd (no_contains n (queued n m t))
@@ -66,7 +103,8 @@ when_none P Q None h k = k h
 when_none P Q (Some x) h k = tt
 
 -- the pairs that are marked are queued
-pub queued_more : (dirty new : ℕ → ℕ → Bool) (pairs : List (ℕ × ℕ)) (old later : List ℕ) → IsQueued dirty old → ((r c : ℕ) → new r c ≡ (list_any (is_pair r c) pairs || dirty r c))
+pub queued_more : (dirty new : ℕ → ℕ → Bool) (pairs : List (ℕ × ℕ)) (old later : List ℕ) → IsQueued dirty old
+    → ((r c : ℕ) → new r c ≡ (list_any (is_pair r c) pairs || dirty r c))
     → ((n m : ℕ) → list_any (is_pair n m) pairs ≡ true → Contains later n) → ((n : ℕ) → Contains old n → Contains later n) → IsQueued new later
 queued_more dirty new pairs old later queued marked own others n m e =
     or_cases (list_any (is_pair n m) pairs) (dirty n m) (sym (marked n m) ∙ e) (own n m) (λ t. others n (queued n m t))

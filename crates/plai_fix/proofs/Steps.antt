@@ -1,5 +1,32 @@
 -- One step of legal work at a table and its arcs: what they keep before it, and what after.
-use Rattle.std.proofs.Common.{◌≡◌, ◌↔◌, ℕ, zero, suc, Bool, true, false, cond, ◌&&◌, ◌||◌, nat_eq, eqb-true, List, map, Option, Some, None, IsSome, sym, refl, ap, ap₂, ◌∙◌, subst, arith}
+use Rattle.std.proofs.Common.{
+  ◌≡◌,
+  ◌↔◌,
+  ℕ,
+  zero,
+  suc,
+  Bool,
+  true,
+  false,
+  cond,
+  ◌&&◌,
+  ◌||◌,
+  nat_eq,
+  eqb-true,
+  List,
+  map,
+  Option,
+  Some,
+  None,
+  IsSome,
+  sym,
+  refl,
+  ap,
+  ap₂,
+  ◌∙◌,
+  subst,
+  arith,
+}
 use Rattle.std.proofs.lemmas.Bool.{eq-eqb}
 use Rattle.plai_theory.specs.Words.{IsIn, given, item}
 use Rattle.plai_theory.specs.Domain.{Domain, Program, IsLawful}
@@ -41,12 +68,14 @@ cond_true false q e = e
 
 module _ (d : Domain) (g : Program d) (laws : IsLawful d g) where
   -- the row under work at the place of a kept row
-  pub row_at : (k : Keeping d) (open_pair : Option (ℕ × ℕ)) (rows : List (WorkRow d)) → Keeps d g k open_pair rows → (n : ℕ) (r : WorkRow d) → item rows n ≡ Some r
+  pub row_at : (k : Keeping d) (open_pair : Option (ℕ × ℕ)) (rows : List (WorkRow d)) → Keeps d g k open_pair rows → (n : ℕ) (r : WorkRow d)
+      → item rows n ≡ Some r
       → (kept : KeptRow d) × (item k.rows n ≡ Some kept) × KeepsRow d g k open_pair n kept r
   row_at k open_pair rows keeps n r e = in_both (KeepsRow d g k open_pair n) (item k.rows n) (item rows n) r e (keeps.each n)
 
   -- Theorem: where the pair of a row is evaluated, the arcs with that pair clean keep the work, with that pair open.
-  module _ (k new : Keeping d) (rows : List (WorkRow d)) (keeps : Keeps d g k None rows) (n i : ℕ) (r : WorkRow d) (at : item rows n ≡ Some r) (names : List (NameOf d)) (clears : Clears d k new n i) where
+  module _ (k new : Keeping d) (rows : List (WorkRow d)) (keeps : Keeps d g k None rows) (n i : ℕ) (r : WorkRow d) (at : item rows n ≡ Some r)
+      (names : List (NameOf d)) (clears : Clears d k new n i) where
     cleared_row : (a : ℕ) (kept : KeptRow d) (q : WorkRow d) → item k.rows a ≡ Some kept → item rows a ≡ Some q → KeepsRow d g k None a kept q
         → KeepsRow d g new (Some (n, i)) a kept (after_evaluating d r.name i names q)
     cleared_row a kept q e f h =
@@ -60,8 +89,11 @@ module _ (d : Domain) (g : Program d) (laws : IsLawful d g) where
               let place : a ≡ n = one_place d g laws rows keeps.own a n q r f at (laws.same_true q.name r.name t) in
               let u : nat_eq a n ≡ true = eq-eqb a n place in
               by_test (nat_eq i j)
-              (λ v. let w : nat_eq (suc j) (suc i) ≡ true = eq-eqb (suc j) (suc i) (ap suc (sym (eqb-true i j v))) in rw (t, v) (clears.dirty a (suc j) ∙ rw (u, w) refl))
-              (λ v. let w : nat_eq (suc j) (suc i) ≡ false = by_test (nat_eq (suc j) (suc i)) (λ z. let b : suc j ≡ suc i = eqb-true (suc j) (suc i) z in let l : true ≡ false = sym (eq-eqb i j (omega arith)) ∙ v in cc) (λ z. z) in
+              (λ v. let w : nat_eq (suc j) (suc i) ≡ true = eq-eqb (suc j) (suc i) (ap suc (sym (eqb-true i j v))) in
+              rw (t, v) (clears.dirty a (suc j) ∙ rw (u, w) refl))
+              (λ v. let w : nat_eq (suc j) (suc i) ≡ false =
+              by_test (nat_eq (suc j) (suc i)) (λ z. let b : suc j ≡ suc i = eqb-true (suc j) (suc i) z in let l : true ≡ false =
+              sym (eq-eqb i j (omega arith)) ∙ v in cc) (λ z. z) in
               rw (t, v) (clears.dirty a (suc j) ∙ rw (u, w) (h.dirty j c s))))
               (λ t. rw t (clears.dirty a (suc j) ∙ rw (elsewhere a q f t) (h.dirty j c s)));
           calls = λ j c s clean shut b y named.
@@ -87,7 +119,8 @@ module _ (d : Domain) (g : Program d) (laws : IsLawful d g) where
             let l : true ≡ false = sym v ∙ t in cc)
             (λ u. u)
 
-        old : (j : ℕ) (c : d.Clause) → item (g.clauses q.name.pred) j ≡ Some c → q.dirty j ≡ false → (b : ℕ) (y : NameOf d) → IsNamed d new.rows b y → (new.calls a (suc j) b ≡ true) ↔ IsIn y (q.calls j)
+        old : (j : ℕ) (c : d.Clause) → item (g.clauses q.name.pred) j ≡ Some c → q.dirty j ≡ false → (b : ℕ) (y : NameOf d) → IsNamed d new.rows b y
+            → (new.calls a (suc j) b ≡ true) ↔ IsIn y (q.calls j)
         old j c s clean b y named =
             subst (λ (z : Bool). (z ≡ true) ↔ IsIn y (q.calls j)) (sym (clears.calls a (suc j) b))
             (h.calls j c s clean (some_not (a, j)) b y (subst (λ (rs : List (KeptRow d)). IsNamed d rs b y) clears.rows named))
@@ -97,12 +130,17 @@ module _ (d : Domain) (g : Program d) (laws : IsLawful d g) where
         record {
           own = own_map d g laws (after_evaluating d r.name i names) (λ q. refl) rows keeps.own;
           each = λ a.
-              subst (λ (o : Option (WorkRow d)). AtBoth (KeepsRow d g new (Some (n, i)) a) (item new.rows a) o) (sym (item_map (after_evaluating d r.name i names) rows a))
-              (subst (λ (rs : List (KeptRow d)). AtBoth (KeepsRow d g new (Some (n, i)) a) (item rs a) (given None (λ q. Some (after_evaluating d r.name i names q)) (item rows a))) (sym clears.rows)
-              (both_map (KeepsRow d g k None a) (KeepsRow d g new (Some (n, i)) a) (after_evaluating d r.name i names) (item k.rows a) (item rows a) (keeps.each a) (cleared_row a)));
-          dirty_rows = λ a m e. subst (λ (rs : List (KeptRow d)). IsSome (item rs a)) (sym clears.rows) (keeps.dirty_rows a m (and_right _ _ (sym (clears.dirty a m) ∙ e)));
+              subst (λ (o : Option (WorkRow d)). AtBoth (KeepsRow d g new (Some (n, i)) a) (item new.rows a) o)
+              (sym (item_map (after_evaluating d r.name i names) rows a))
+              (subst (λ (rs : List (KeptRow d)). AtBoth (KeepsRow d g new (Some (n, i)) a) (item rs a)
+              (given None (λ q. Some (after_evaluating d r.name i names q)) (item rows a))) (sym clears.rows)
+              (both_map (KeepsRow d g k None a) (KeepsRow d g new (Some (n, i)) a) (after_evaluating d r.name i names) (item k.rows a) (item rows a)
+              (keeps.each a) (cleared_row a)));
+          dirty_rows = λ a m e. subst (λ (rs : List (KeptRow d)). IsSome (item rs a)) (sym clears.rows)
+              (keeps.dirty_rows a m (and_right _ _ (sym (clears.dirty a m) ∙ e)));
           calls_rows = λ a m j e.
-              subst (λ (rs : List (KeptRow d)). IsSome (item rs a) × IsSome (item rs j)) (sym clears.rows) (keeps.calls_rows a m j (sym (clears.calls a m j) ∙ e));
+              subst (λ (rs : List (KeptRow d)). IsSome (item rs a) × IsSome (item rs j)) (sym clears.rows)
+              (keeps.calls_rows a m j (sym (clears.calls a m j) ∙ e));
         }
 
   -- fewer pairs are asked about where one is open
@@ -126,7 +164,8 @@ module _ (d : Domain) (g : Program d) (laws : IsLawful d g) where
           }
 
   -- Theorem: where the calls of the open pair are set to the rows of the names that its evaluation called, no pair is open.
-  module _ (k new : Keeping d) (rows : List (WorkRow d)) (n i : ℕ) (keeps : Keeps d g k (Some (n, i)) rows) (r : WorkRow d) (at : item rows n ≡ Some r) (c : d.Clause) (is_clause : item (g.clauses r.name.pred) i ≡ Some c)
+  module _ (k new : Keeping d) (rows : List (WorkRow d)) (n i : ℕ) (keeps : Keeps d g k (Some (n, i)) rows) (r : WorkRow d) (at : item rows n ≡ Some r)
+      (c : d.Clause) (is_clause : item (g.clauses r.name.pred) i ≡ Some c)
       (called : ℕ → Bool) (sets : SetsCalls d k new n i called) (inside : (j : ℕ) → called j ≡ true → IsSome (item k.rows j))
       (right : (j : ℕ) (y : NameOf d) → IsNamed d k.rows j y → (called j ≡ true) ↔ IsIn y (r.calls i)) where
     -- the pair, or another one
@@ -134,7 +173,8 @@ module _ (d : Domain) (g : Program d) (laws : IsLawful d g) where
     by_pair a m h other =
         by_test (nat_eq a n && nat_eq m i)
         (λ t. h (eqb-true a n (first (nat_eq a n) (nat_eq m i) t)) (eqb-true m i (and_right (nat_eq a n) (nat_eq m i) t)))
-        (λ t. other (λ e f. let u : nat_eq a n ≡ true = eq-eqb a n e in let v : nat_eq m i ≡ true = eq-eqb m i (omega arith) in let l : true ≡ false = rw (u, v) at t in cc))
+        (λ t. other (λ e f. let u : nat_eq a n ≡ true = eq-eqb a n e in let v : nat_eq m i ≡ true = eq-eqb m i (omega arith) in let l : true ≡ false =
+        rw (u, v) at t in cc))
       where
         first : (p q : Bool) → (p && q) ≡ true → p ≡ true
         first true q e = refl
@@ -148,7 +188,8 @@ module _ (d : Domain) (g : Program d) (laws : IsLawful d g) where
         (λ u v. h u (ap suc v) (sym (sets.own j) ∙ sym (ap₂ (λ x z. new.calls x z j) u (ap suc v)) ∙ e))
         (λ w. other (sym (sets.others a (suc m) j w) ∙ e))
 
-    closed_row : (a : ℕ) (kept : KeptRow d) (q : WorkRow d) → item k.rows a ≡ Some kept → item rows a ≡ Some q → KeepsRow d g k (Some (n, i)) a kept q → KeepsRow d g new None a kept q
+    closed_row : (a : ℕ) (kept : KeptRow d) (q : WorkRow d) → item k.rows a ≡ Some kept → item rows a ≡ Some q → KeepsRow d g k (Some (n, i)) a kept q
+        → KeepsRow d g new None a kept q
     closed_row a kept q e f h =
         record {
           name = h.name;
@@ -200,7 +241,8 @@ module _ (d : Domain) (g : Program d) (laws : IsLawful d g) where
               (λ t. keeps.calls_rows a m j t));
         }
       where
-        at_row : (a : ℕ) (o : Option (KeptRow d)) (u : Option (WorkRow d)) → item k.rows a ≡ o → item rows a ≡ u → AtBoth (KeepsRow d g k (Some (n, i)) a) o u → AtBoth (KeepsRow d g new None a) o u
+        at_row : (a : ℕ) (o : Option (KeptRow d)) (u : Option (WorkRow d)) → item k.rows a ≡ o → item rows a ≡ u → AtBoth (KeepsRow d g k (Some (n, i)) a) o u
+            → AtBoth (KeepsRow d g new None a) o u
         at_row a None None e f h = tt
         at_row a None (Some q) e f h = h
         at_row a (Some kept) None e f h = h

@@ -13,7 +13,8 @@ use Rattle.plai_fix.specs.WorkStates.{KeptRow, Keeping, IsNamed, KeepsRow, AtBot
 use Rattle.plai_fix.specs.Logs.{IsLogged}
 use Rattle.plai_fix.proofs.Places.{found_at, one_place, same_source}
 
-module _ (d : Domain) (g : Program d) (laws : IsLawful d g) (limits : Limits d) (limit : ℕ) (log : List (LogEntry d)) (k : Keeping d) (open_pair : Option (ℕ × ℕ))
+module _ (d : Domain) (g : Program d) (laws : IsLawful d g) (limits : Limits d) (limit : ℕ) (log : List (LogEntry d)) (k : Keeping d)
+    (open_pair : Option (ℕ × ℕ))
     (logged : IsLogged d g limits limit (no_work d) log k open_pair) where
   abbrev rows : List (WorkRow d)
   rows = (after_all d g (no_work d) log).rows
@@ -33,14 +34,16 @@ module _ (d : Domain) (g : Program d) (laws : IsLawful d g) (limits : Limits d) 
   pub answer_is_value : (p : d.Pred) (v a : d.Value) → d.leq p v v → kept_source d k.rows p v ≡ Some a → d.leq p a a
   answer_is_value p v a is e =
       let s : present_source d rows p v ≡ Some a = sym (kept_answers p v) ∙ e in
-      let h : UpTo (d.leq p) (present_source d rows p v) (present_source d rows p v) = left_at d g laws p (present_source d rows p v) (stage d g inv.low.0 p v) (inv.low.1 p v is) in
+      let h : UpTo (d.leq p) (present_source d rows p v) (present_source d rows p v) =
+      left_at d g laws p (present_source d rows p v) (stage d g inv.low.0 p v) (inv.low.1 p v is) in
       let u : UpTo (d.leq p) (Some a) (Some a) = subst (λ (o : Option d.Value). UpTo (d.leq p) o o) s h in u
 
   -- the row under work of a named row
   named_row : (n : ℕ) (x : NameOf d) → IsNamed d k.rows n x → (r : WorkRow d) × (item rows n ≡ Some r) × (r.name ≡ x)
   named_row n x named = at_row (item k.rows n) (item rows n) (logged.keeps.each n) named
     where
-      at_row : (o : Option (KeptRow d)) (u : Option (WorkRow d)) → AtBoth (KeepsRow d g k open_pair n) o u → HasSome (λ (z : KeptRow d). z.name ≡ x) o → (r : WorkRow d) × (u ≡ Some r) × (r.name ≡ x)
+      at_row : (o : Option (KeptRow d)) (u : Option (WorkRow d)) → AtBoth (KeepsRow d g k open_pair n) o u → HasSome (λ (z : KeptRow d). z.name ≡ x) o
+          → (r : WorkRow d) × (u ≡ Some r) × (r.name ≡ x)
       at_row None u h m = absurd m
       at_row (Some kept) None h m = absurd h
       at_row (Some kept) (Some r) h m = (r, refl, sym h.name ∙ m)

@@ -1,5 +1,28 @@
 -- Where a pair waits no more for rows of the names that it called.
-use Rattle.std.proofs.Common.{◌≡◌, ℕ, suc, ◌≤◌, Bool, true, false, ◌&&◌, ◌||◌, nat_eq, eqb-true, List, Some, None, IsSome, sym, refl, ap, ap₂, ◌∙◌, subst, arith}
+use Rattle.std.proofs.Common.{
+  ◌≡◌,
+  ℕ,
+  suc,
+  ◌≤◌,
+  Bool,
+  true,
+  false,
+  ◌&&◌,
+  ◌||◌,
+  nat_eq,
+  eqb-true,
+  List,
+  Some,
+  None,
+  IsSome,
+  sym,
+  refl,
+  ap,
+  ap₂,
+  ◌∙◌,
+  subst,
+  arith,
+}
 use Rattle.plai_theory.specs.Words.{IsIn, item}
 use Rattle.plai_theory.specs.Domain.{Domain, Program, IsLawful}
 use Rattle.plai_theory.specs.Evaluation.{NameOf}
@@ -24,7 +47,8 @@ module _ (d : Domain) (g : Program d) (laws : IsLawful d g) where
             let same : q ≡ r = cc in
             let (z, f, l) = all y (subst (IsIn y) (ap₂ (λ (w : WorkRow d) (m : ℕ). w.calls m) same (eqb-true j i v)) inside) in
             (z, f, λ o. l))
-            (λ t. met.met a q e j c s clean (λ p. let (x, z) = some_pair p in let u : (nat_eq a n && nat_eq j i) ≡ true = rw (eq-eqb a n (sym x), eq-eqb j i (sym z)) refl in let l : true ≡ false = sym u ∙ t in cc) free y inside);
+            (λ t. met.met a q e j c s clean (λ p. let (x, z) = some_pair p in let u : (nat_eq a n && nat_eq j i) ≡ true =
+            rw (eq-eqb a n (sym x), eq-eqb j i (sym z)) refl in let l : true ≡ false = sym u ∙ t in cc) free y inside);
       }
     where
       both : (p q : Bool) → (p && q) ≡ true → (p ≡ true) × (q ≡ true)
@@ -32,15 +56,18 @@ module _ (d : Domain) (g : Program d) (laws : IsLawful d g) where
       both false q e = cc
 
   -- Where the limit is met and a name that it called is no live row, the pair that waited is marked as unmet.
-  pub waits_for_ever : (limit : ℕ) (rows : List (WorkRow d)) (n i : ℕ) (unmet marked : ℕ → ℕ → Bool) → IsMet d g (Some (n, i)) unmet rows → IsFull d g limit unmet rows → ((a m : ℕ) → marked a m ≡ ((nat_eq a n && nat_eq m (suc i)) || unmet a m))
-      → (r : WorkRow d) → item rows n ≡ Some r → IsSome (clause_at d g r.name.pred (suc i)) → limit ≤ live_count d rows → (y : NameOf d) → IsIn y (r.calls i) → ((q : WorkRow d) → find d rows y ≡ Some q → q.live ≡ false)
+  pub waits_for_ever : (limit : ℕ) (rows : List (WorkRow d)) (n i : ℕ) (unmet marked : ℕ → ℕ → Bool) → IsMet d g (Some (n, i)) unmet rows
+      → IsFull d g limit unmet rows → ((a m : ℕ) → marked a m ≡ ((nat_eq a n && nat_eq m (suc i)) || unmet a m))
+      → (r : WorkRow d) → item rows n ≡ Some r → IsSome (clause_at d g r.name.pred (suc i)) → limit ≤ live_count d rows → (y : NameOf d) → IsIn y (r.calls i)
+      → ((q : WorkRow d) → find d rows y ≡ Some q → q.live ≡ false)
       → IsMet d g None marked rows × IsFull d g limit marked rows
   waits_for_ever limit rows n i unmet marked met full marks r at real no_room y inside dead = (
     record {
       met = λ a q e j c s clean shut free.
           let (x, z) = neither (nat_eq a n && nat_eq (suc j) (suc i)) (unmet a (suc j)) (sym (marks a (suc j)) ∙ free) in
           met.met a q e j c s clean (λ p. let (v, w) = some_pair p in
-          let u : (nat_eq a n && nat_eq (suc j) (suc i)) ≡ true = rw (eq-eqb a n (sym v), eq-eqb (suc j) (suc i) (ap suc (sym w))) refl in let l : true ≡ false = sym u ∙ x in cc) z;
+          let u : (nat_eq a n && nat_eq (suc j) (suc i)) ≡ true = rw (eq-eqb a n (sym v), eq-eqb (suc j) (suc i) (ap suc (sym w))) refl in
+          let l : true ≡ false = sym u ∙ x in cc) z;
     },
     record {
       full = λ a m e. no_room;

@@ -1,9 +1,60 @@
 -- Steps of legal work at a table and its arcs, each noted at the end of a log.
-use Rattle.std.proofs.Common.{◌≡◌, ◌≢◌, ℕ, suc, ◌+◌, ◌<◌, ◌≤◌, Bool, true, false, cond, ◌↔◌, nat_eq, eqb-true, List, [], ◌∷◌, ◌++◌, map, Option, Some, None, IsSome, sym, refl, ap, ap₂, ◌∙◌, subst, arith}
+use Rattle.std.proofs.Common.{
+  ◌≡◌,
+  ◌≢◌,
+  ℕ,
+  suc,
+  ◌+◌,
+  ◌<◌,
+  ◌≤◌,
+  Bool,
+  true,
+  false,
+  cond,
+  ◌↔◌,
+  nat_eq,
+  eqb-true,
+  List,
+  [],
+  ◌∷◌,
+  ◌++◌,
+  map,
+  Option,
+  Some,
+  None,
+  IsSome,
+  sym,
+  refl,
+  ap,
+  ap₂,
+  ◌∙◌,
+  subst,
+  arith,
+}
 use Rattle.plai_theory.specs.Words.{IsIn, given, item}
 use Rattle.plai_theory.specs.Domain.{Domain, Program, IsLawful}
 use Rattle.plai_theory.specs.Evaluation.{NameOf}
-use Rattle.plai_theory.specs.LegalWork.{WorkRow, Work, LogEntry, Made, Evaluated, Grew, find, present_source, mentions, new_row, after_evaluating, after_growing, calls_now, next_answer, after, IsDemanded, live_count, IsLegal, after_all}
+use Rattle.plai_theory.specs.LegalWork.{
+  WorkRow,
+  Work,
+  LogEntry,
+  Made,
+  Evaluated,
+  Grew,
+  find,
+  present_source,
+  mentions,
+  new_row,
+  after_evaluating,
+  after_growing,
+  calls_now,
+  next_answer,
+  after,
+  IsDemanded,
+  live_count,
+  IsLegal,
+  after_all,
+}
 use Rattle.plai_theory.specs.Limits.{Limits, IsOverAt, Fits, AllFit}
 use Rattle.plai_theory.proofs.Options.{by_test}
 use Rattle.plai_theory.proofs.Rows.{find_map, find_push}
@@ -17,7 +68,8 @@ use Rattle.plai_fix.proofs.Steps.{row_at, cleared, opened, closed}
 use Rattle.plai_fix.proofs.Growths.{grown, made}
 
 -- live rows, of which a change of rows makes as many
-live_map : (d : Domain) (f : WorkRow d → WorkRow d) → ((r : WorkRow d) → (f r).live ≡ r.live) → (rows : List (WorkRow d)) → live_count d (map f rows) ≡ live_count d rows
+live_map : (d : Domain) (f : WorkRow d → WorkRow d) → ((r : WorkRow d) → (f r).live ≡ r.live) → (rows : List (WorkRow d))
+    → live_count d (map f rows) ≡ live_count d rows
 live_map d f keeps [] = refl
 live_map d f keeps (r ∷ rows) = ap₂ (λ (b : Bool) (n : ℕ). cond b 1 0 + n) (keeps r) (live_map d f keeps rows)
 
@@ -25,7 +77,8 @@ live_push : (d : Domain) (rows : List (WorkRow d)) (x : NameOf d) → live_count
 live_push d [] x = refl
 live_push d (r ∷ rows) x = let k : live_count d (rows ++ new_row d x ∷ []) ≡ live_count d rows + 1 = live_push d rows x in omega arith
 
-fits_push : (d : Domain) (g : Program d) (limits : Limits d) (w : Work d) (es : List (LogEntry d)) (e : LogEntry d) → AllFit d g limits w es → Fits d g limits (after_all d g w es) e → AllFit d g limits w (es ++ e ∷ [])
+fits_push : (d : Domain) (g : Program d) (limits : Limits d) (w : Work d) (es : List (LogEntry d)) (e : LogEntry d) → AllFit d g limits w es
+    → Fits d g limits (after_all d g w es) e → AllFit d g limits w (es ++ e ∷ [])
 fits_push d g limits w [] e fits h = (h, tt)
 fits_push d g limits w (b ∷ es) e fits h = (fits.0, fits_push d g limits (after d g w b) es e fits.1 h)
 
@@ -54,10 +107,12 @@ module _ (d : Domain) (g : Program d) (laws : IsLawful d g) where
     pub found_map : (rows : List (WorkRow d)) (y : NameOf d) (q : WorkRow d) → find d rows y ≡ Some q → find d (map f rows) y ≡ Some (f q)
     found_map rows y q e = find_map d g laws f keeps rows y ∙ ap (given None (λ r. Some (f r))) e
 
-    found_back : (rows : List (WorkRow d)) (y : NameOf d) (q : WorkRow d) → find d (map f rows) y ≡ Some q → (z : WorkRow d) × (find d rows y ≡ Some z) × (f z ≡ q)
+    found_back : (rows : List (WorkRow d)) (y : NameOf d) (q : WorkRow d) → find d (map f rows) y ≡ Some q
+        → (z : WorkRow d) × (find d rows y ≡ Some z) × (f z ≡ q)
     found_back rows y q e = at_found (find d rows y) refl (sym (find_map d g laws f keeps rows y) ∙ e)
       where
-        at_found : (o : Option (WorkRow d)) → find d rows y ≡ o → given None (λ r. Some (f r)) o ≡ Some q → (z : WorkRow d) × (find d rows y ≡ Some z) × (f z ≡ q)
+        at_found : (o : Option (WorkRow d)) → find d rows y ≡ o → given None (λ r. Some (f r)) o ≡ Some q
+            → (z : WorkRow d) × (find d rows y ≡ Some z) × (f z ≡ q)
         at_found None k u = cc
         at_found (Some z) k u = (z, k, cc)
 
@@ -69,19 +124,24 @@ module _ (d : Domain) (g : Program d) (laws : IsLawful d g) where
         record {
           met = λ n r e i c s clean shut free y inside.
               at_map f rows n r e (λ q k same.
-              let s' : item (g.clauses q.name.pred) i ≡ Some c = subst (λ (x : NameOf d). item (g.clauses x.pred) i ≡ Some c) (keeps q) (subst (λ (z : WorkRow d). item (g.clauses z.name.pred) i ≡ Some c) (sym same) s) in
+              let s' : item (g.clauses q.name.pred) i ≡ Some c =
+              subst (λ (x : NameOf d). item (g.clauses x.pred) i ≡ Some c) (keeps q)
+              (subst (λ (z : WorkRow d). item (g.clauses z.name.pred) i ≡ Some c) (sym same) s) in
               let (was, calls, unwaited, unmarked) = h n q k i (subst (λ (z : WorkRow d). z.dirty i ≡ false) (sym same) clean) shut free in
-              let (z, there, live) = met.met n q k i c s' was unwaited unmarked y (subst (IsIn y) calls (subst (λ (w : WorkRow d). IsIn y (w.calls i)) (sym same) inside)) in
+              let (z, there, live) = met.met n q k i c s' was unwaited unmarked y
+              (subst (IsIn y) calls (subst (λ (w : WorkRow d). IsIn y (w.calls i)) (sym same) inside)) in
               (f z, found_map rows y z there, λ l. lives z ∙ live (sym (lives q) ∙ ap (λ (w : WorkRow d). w.live) same ∙ l)));
         }
 
     pub full_map : (rows : List (WorkRow d)) (limit : ℕ) (unmet new : ℕ → ℕ → Bool) → IsFull d g limit unmet rows
         → ((n m : ℕ) → new n m ≡ true → unmet n m ≡ true)
-        → ((n : ℕ) (r : WorkRow d) → item rows n ≡ Some r → (i : ℕ) → (f r).dirty i ≡ false → new n (suc i) ≡ true → (r.dirty i ≡ false) × ((f r).calls i ≡ r.calls i))
+        → ((n : ℕ) (r : WorkRow d) → item rows n ≡ Some r → (i : ℕ) → (f r).dirty i ≡ false → new n (suc i) ≡ true
+        → (r.dirty i ≡ false) × ((f r).calls i ≡ r.calls i))
         → IsFull d g limit new (map f rows)
     full_map rows limit unmet new full fewer h =
         record {
-          full = λ n m e. let k : limit ≤ live_count d rows = full.full n m (fewer n m e) in let s : live_count d (map f rows) ≡ live_count d rows = live_map d f lives rows in omega arith;
+          full = λ n m e. let k : limit ≤ live_count d rows = full.full n m (fewer n m e) in let s : live_count d (map f rows) ≡ live_count d rows =
+              live_map d f lives rows in omega arith;
           pairs = λ n m e.
               let (q, t, u) = full.pairs n m (fewer n m e) in
               (f q, item_map f rows n ∙ ap (given None (λ z. Some (f z))) t, subst (λ (x : NameOf d). IsSome (clause_at d g x.pred m)) (sym (keeps q)) u);
@@ -100,7 +160,8 @@ module _ (d : Domain) (g : Program d) (laws : IsLawful d g) (limits : Limits d) 
   rows = (after_all d g start log).rows
 
   -- Theorem: a dirty pair of a row is evaluated.
-  module _ (k new : Keeping d) (unmet left : ℕ → ℕ → Bool) (working : IsWorking d g limits limit start log k None None unmet) (n i : ℕ) (r : WorkRow d) (at : item rows n ≡ Some r)
+  module _ (k new : Keeping d) (unmet left : ℕ → ℕ → Bool) (working : IsWorking d g limits limit start log k None None unmet) (n i : ℕ) (r : WorkRow d)
+      (at : item rows n ≡ Some r)
       (c : d.Clause) (is_clause : item (g.clauses r.name.pred) i ≡ Some c) (is_dirty : k.dirty n (suc i) ≡ true)
       (within : IsOverAt d limits (present_source d rows) c r.name.call → ⊥) (clears : Clears d k new n i)
       (others : (a m : ℕ) → (a ≡ n → m ≡ suc i → ⊥) → left a m ≡ unmet a m) (own : left n (suc i) ≡ false) where
@@ -111,7 +172,8 @@ module _ (d : Domain) (g : Program d) (laws : IsLawful d g) (limits : Limits d) 
     step = Evaluated r.name i
 
     -- a pair that is clean behind the step, other than this one
-    was_clean : (a : ℕ) (q : WorkRow d) → item rows a ≡ Some q → (j : ℕ) → (evaluate q).dirty j ≡ false → (a ≡ n → suc j ≡ suc i → ⊥) → (q.dirty j ≡ false) × ((evaluate q).calls j ≡ q.calls j)
+    was_clean : (a : ℕ) (q : WorkRow d) → item rows a ≡ Some q → (j : ℕ) → (evaluate q).dirty j ≡ false → (a ≡ n → suc j ≡ suc i → ⊥)
+        → (q.dirty j ≡ false) × ((evaluate q).calls j ≡ q.calls j)
     was_clean a q f j e other =
         by_test (d.same_name q.name r.name)
         (λ t. by_test (nat_eq i j)
@@ -132,10 +194,15 @@ module _ (d : Domain) (g : Program d) (laws : IsLawful d g) (limits : Limits d) 
               record {
                 legal = legal_push d g limit start log step working.logged.legal legal;
                 fits = fits_push d g limits start log step working.logged.fits
-                    (λ b s. let e : Some c ≡ Some b = sym is_clause ∙ s in let f : c ≡ b = cc in subst (λ (z : d.Clause). IsOverAt d limits (present_source d rows) z r.name.call → ⊥) f within);
-                keeps = subst (λ (w : Work d). Keeps d g new (Some (n, i)) w.rows) (sym same) (cleared d g laws k new rows working.logged.keeps n i r at (calls_now d g rows r.name i) clears);
-                few = subst (λ (w : Work d). live_count d w.rows ≤ limit) (sym same) (let l : live_count d (map evaluate rows) ≡ live_count d rows = live_map d evaluate (λ z. refl) rows in let f = working.logged.few in omega arith);
-                live = λ a q e. at_map evaluate rows a q (sym (ap (λ (w : Work d). item w.rows a) same) ∙ e) (λ z f s. sym (ap (λ (b : WorkRow d). b.live) s) ∙ working.logged.live a z f);
+                    (λ b s. let e : Some c ≡ Some b = sym is_clause ∙ s in let f : c ≡ b = cc in
+                    subst (λ (z : d.Clause). IsOverAt d limits (present_source d rows) z r.name.call → ⊥) f within);
+                keeps = subst (λ (w : Work d). Keeps d g new (Some (n, i)) w.rows) (sym same)
+                    (cleared d g laws k new rows working.logged.keeps n i r at (calls_now d g rows r.name i) clears);
+                few = subst (λ (w : Work d). live_count d w.rows ≤ limit) (sym same)
+                    (let l : live_count d (map evaluate rows) ≡ live_count d rows = live_map d evaluate (λ z. refl) rows in let f = working.logged.few in
+                    omega arith);
+                live = λ a q e. at_map evaluate rows a q (sym (ap (λ (w : Work d). item w.rows a) same) ∙ e)
+                    (λ z f s. sym (ap (λ (b : WorkRow d). b.live) s) ∙ working.logged.live a z f);
               };
           last = ap (λ (w : Work d). w.last) same;
           met = subst (λ (w : Work d). IsMet d g (Some (n, i)) left w.rows) (sym same)
@@ -168,7 +235,8 @@ module _ (d : Domain) (g : Program d) (laws : IsLawful d g) (limits : Limits d) 
             (λ u. sym (others a m (λ x y. eqb-false a n u x)) ∙ e)
 
   -- where the row's answer is the join already, nothing is due
-  pub nothing_due : (k : Keeping d) (open_pair : Option (ℕ × ℕ)) (n i : ℕ) (x : NameOf d) (unmet : ℕ → ℕ → Bool) → IsEvaluated d g limits limit start log k open_pair n i x unmet
+  pub nothing_due : (k : Keeping d) (open_pair : Option (ℕ × ℕ)) (n i : ℕ) (x : NameOf d) (unmet : ℕ → ℕ → Bool)
+      → IsEvaluated d g limits limit start log k open_pair n i x unmet
       → next_answer d g rows x i ≡ present_source d rows x.pred x.call → IsWorking d g limits limit start log k open_pair (Some (n, i)) unmet
   nothing_due k open_pair n i x unmet done same =
       record {
@@ -178,11 +246,13 @@ module _ (d : Domain) (g : Program d) (laws : IsLawful d g) (limits : Limits d) 
         full = done.full;
       }
     where
-      at_pair : (y : NameOf d) (j : ℕ) → ◌≡◌ {A = Option (NameOf d × ℕ)} (Some (x, i)) (Some (y, j)) → next_answer d g rows y j ≡ present_source d rows y.pred y.call
+      at_pair : (y : NameOf d) (j : ℕ) → ◌≡◌ {A = Option (NameOf d × ℕ)} (Some (x, i)) (Some (y, j))
+          → next_answer d g rows y j ≡ present_source d rows y.pred y.call
       at_pair y j p =
           let u : x ≡ y = ap name p in
           let v : i ≡ j = ap number p in
-          subst (λ (z : NameOf d). next_answer d g rows z j ≡ present_source d rows z.pred z.call) u (subst (λ m. next_answer d g rows x m ≡ present_source d rows x.pred x.call) v same)
+          subst (λ (z : NameOf d). next_answer d g rows z j ≡ present_source d rows z.pred z.call) u
+          (subst (λ m. next_answer d g rows x m ≡ present_source d rows x.pred x.call) v same)
         where
           name : Option (NameOf d × ℕ) → NameOf d
           name None = x
@@ -193,8 +263,10 @@ module _ (d : Domain) (g : Program d) (laws : IsLawful d g) (limits : Limits d) 
           number (Some q) = q.1
 
   -- Theorem: the growth that is due is done.
-  module _ (k new : Keeping d) (n i : ℕ) (r : WorkRow d) (unmet : ℕ → ℕ → Bool) (done : IsEvaluated d g limits limit start log k None n i r.name unmet) (at : item rows n ≡ Some r)
-      (a : Option d.Value) (is : a ≡ next_answer d g rows r.name i) (other : a ≢ present_source d rows r.name.pred r.name.call) (answers : Answers d k new n a) where
+  module _ (k new : Keeping d) (n i : ℕ) (r : WorkRow d) (unmet : ℕ → ℕ → Bool) (done : IsEvaluated d g limits limit start log k None n i r.name unmet)
+      (at : item rows n ≡ Some r)
+      (a : Option d.Value) (is : a ≡ next_answer d g rows r.name i) (other : a ≢ present_source d rows r.name.pred r.name.call)
+      (answers : Answers d k new n a) where
     abbrev growth : WorkRow d → WorkRow d
     growth = after_growing d r.name a
 
@@ -215,20 +287,25 @@ module _ (d : Domain) (g : Program d) (laws : IsLawful d g) (limits : Limits d) 
                 legal = legal_push d g limit start log growing done.logged.legal (i, done.last, is, other);
                 fits = fits_push d g limits start log growing done.logged.fits tt;
                 keeps = subst (λ (w : Work d). Keeps d g new None w.rows) (sym same_grown) (grown d g laws k new rows done.logged.keeps n r at a answers);
-                few = subst (λ (w : Work d). live_count d w.rows ≤ limit) (sym same_grown) (let l : live_count d (map growth rows) ≡ live_count d rows = live_map d growth (λ z. refl) rows in let f = done.logged.few in omega arith);
-                live = λ b q e. at_map growth rows b q (sym (ap (λ (w : Work d). item w.rows b) same_grown) ∙ e) (λ z f s. sym (ap (λ (y : WorkRow d). y.live) s) ∙ done.logged.live b z f);
+                few = subst (λ (w : Work d). live_count d w.rows ≤ limit) (sym same_grown)
+                    (let l : live_count d (map growth rows) ≡ live_count d rows = live_map d growth (λ z. refl) rows in let f = done.logged.few in omega arith);
+                live = λ b q e. at_map growth rows b q (sym (ap (λ (w : Work d). item w.rows b) same_grown) ∙ e)
+                    (λ z f s. sym (ap (λ (y : WorkRow d). y.live) s) ∙ done.logged.live b z f);
               };
           none_due = λ y j e. let l : None ≡ Some (y, j) = sym (ap (λ (w : Work d). w.last) same_grown) ∙ e in cc;
           met = subst (λ (w : Work d). IsMet d g (Some (n, i)) unmet w.rows) (sym same_grown)
               (met_map d g laws growth (λ z. refl) (λ z. refl) rows (Some (n, i)) (Some (n, i)) unmet unmet done.met
               (λ b q f j clean shut free. (still_clean q j clean, refl, shut, free)));
           full = subst (λ (w : Work d). IsFull d g limit unmet w.rows) (sym same_grown)
-              (full_map d g laws growth (λ z. refl) (λ z. refl) rows limit unmet unmet done.full (λ b m e. e) (λ b q f j clean marked. (still_clean q j clean, refl)));
+              (full_map d g laws growth (λ z. refl) (λ z. refl) rows limit unmet unmet done.full (λ b m e. e)
+              (λ b q f j clean marked. (still_clean q j clean, refl)));
         }
 
   -- Theorem: a row is made for a name that is demanded and has none.
-  module _ (k new : Keeping d) (open_pair waiting : Option (ℕ × ℕ)) (unmet : ℕ → ℕ → Bool) (working : IsWorking d g limits limit start log k open_pair waiting unmet)
-      (waits : (p : ℕ × ℕ) → waiting ≡ Some p → open_pair ≡ Some p) (x : NameOf d) (demanded : IsDemanded d g rows x) (absent : find d rows x ≡ None) (room : live_count d rows < limit) (makes : Makes d g k new x) where
+  module _ (k new : Keeping d) (open_pair waiting : Option (ℕ × ℕ)) (unmet : ℕ → ℕ → Bool)
+      (working : IsWorking d g limits limit start log k open_pair waiting unmet)
+      (waits : (p : ℕ × ℕ) → waiting ≡ Some p → open_pair ≡ Some p) (x : NameOf d) (demanded : IsDemanded d g rows x) (absent : find d rows x ≡ None)
+      (room : live_count d rows < limit) (makes : Makes d g k new x) where
     abbrev making : LogEntry d
     making = Made x
 
@@ -254,9 +331,12 @@ module _ (d : Domain) (g : Program d) (laws : IsLawful d g) (limits : Limits d) 
               record {
                 legal = legal_push d g limit start log making working.logged.legal (working.none_due, demanded, absent, room);
                 fits = fits_push d g limits start log making working.logged.fits tt;
-                keeps = subst (λ (w : Work d). Keeps d g new open_pair w.rows) (sym same_made) (made d g laws k new rows open_pair working.logged.keeps x absent uncalled makes);
-                few = subst (λ (w : Work d). live_count d w.rows ≤ limit) (sym same_made) (let l : live_count d (rows ++ new_row d x ∷ []) ≡ live_count d rows + 1 = live_push d rows x in omega arith);
-                live = λ a q e. push_cases rows (new_row d x) q a (sym (ap (λ (w : Work d). item w.rows a) same_made) ∙ e) (working.logged.live a q) (λ f s. sym (ap (λ (y : WorkRow d). y.live) s));
+                keeps = subst (λ (w : Work d). Keeps d g new open_pair w.rows) (sym same_made)
+                    (made d g laws k new rows open_pair working.logged.keeps x absent uncalled makes);
+                few = subst (λ (w : Work d). live_count d w.rows ≤ limit) (sym same_made)
+                    (let l : live_count d (rows ++ new_row d x ∷ []) ≡ live_count d rows + 1 = live_push d rows x in omega arith);
+                live = λ a q e. push_cases rows (new_row d x) q a (sym (ap (λ (w : Work d). item w.rows a) same_made) ∙ e) (working.logged.live a q)
+                    (λ f s. sym (ap (λ (y : WorkRow d). y.live) s));
               };
           none_due = λ y j e. let l : None ≡ Some (y, j) = sym (ap (λ (w : Work d). w.last) same_made) ∙ e in cc;
           met = subst (λ (w : Work d). IsMet d g waiting unmet w.rows) (sym same_made)
@@ -275,7 +355,8 @@ module _ (d : Domain) (g : Program d) (laws : IsLawful d g) (limits : Limits d) 
         }
 
   -- Theorem: the calls of the open pair are set.
-  pub sets : (k new : Keeping d) (n i : ℕ) → IsLogged d g limits limit start log k (Some (n, i)) → (r : WorkRow d) → item rows n ≡ Some r → (c : d.Clause) → item (g.clauses r.name.pred) i ≡ Some c
+  pub sets : (k new : Keeping d) (n i : ℕ) → IsLogged d g limits limit start log k (Some (n, i)) → (r : WorkRow d) → item rows n ≡ Some r → (c : d.Clause)
+      → item (g.clauses r.name.pred) i ≡ Some c
       → (called : ℕ → Bool) → SetsCalls d k new n i called → ((j : ℕ) → called j ≡ true → IsSome (item k.rows j))
       → ((j : ℕ) (y : NameOf d) → IsNamed d k.rows j y → (called j ≡ true) ↔ IsIn y (r.calls i)) → IsLogged d g limits limit start log new None
   sets k new n i logged r at c s called set inside right =

@@ -22,14 +22,18 @@ is_state s = record {
   second_arity = refl;
   first_variables = refl;
   second_variables = refl;
-  order = value_of_positive (value_kept (s.arity + s.variables) (λ x. has (models_in s.variables (together s.factors.items)) (x / 2 ^ s.arity) && nat_eq (terms_at s.sets.items (x / 2 ^ s.arity)) (x % 2 ^ s.arity)) (and_from _ _ there same));
+  order = value_of_positive (value_kept (s.arity + s.variables)
+      (λ x. has (models_in s.variables (together s.factors.items)) (x / 2 ^ s.arity) && nat_eq (terms_at s.sets.items (x / 2 ^ s.arity)) (x % 2 ^ s.arity))
+      (and_from _ _ there same));
 }
   where
     there : has (models_in s.variables (together s.factors.items)) (all_true (s.arity + s.variables) / 2 ^ s.arity) ≡ true
-    there = ap (has (models_in s.variables (together s.factors.items))) (top_div s.arity s.variables) ∙ kept_has (2 ^ s.variables) (λ y. together s.factors.items (has_slot y)) (all_true s.variables) (top_lt s.variables) s.top
+    there = ap (has (models_in s.variables (together s.factors.items))) (top_div s.arity s.variables)
+        ∙ kept_has (2 ^ s.variables) (λ y. together s.factors.items (has_slot y)) (all_true s.variables) (top_lt s.variables) s.top
 
     same : nat_eq (terms_at s.sets.items (all_true (s.arity + s.variables) / 2 ^ s.arity)) (all_true (s.arity + s.variables) % 2 ^ s.arity) ≡ true
-    same = eq-eqb _ _ (ap (terms_at s.sets.items) (top_div s.arity s.variables) ∙ top_terms s.variables s.sets.items s.below ∙ ap all_true s.size ∙ sym (top_mod s.arity s.variables))
+    same = eq-eqb _ _ (ap (terms_at s.sets.items) (top_div s.arity s.variables) ∙ top_terms s.variables s.sets.items s.below ∙ ap all_true s.size
+        ∙ sym (top_mod s.arity s.variables))
 
 pub is_value_of : (v : Value) (n : ℕ) → arity_of (value_of v) ≡ n → IsValue groundness n (value_of v)
 is_value_of v n e = is_value v n e

@@ -1,5 +1,33 @@
 -- Quoted tokens item by item.
-use Rattle.std.proofs.Common.{◌≡◌, ℕ, zero, suc, ◌+◌, ◌≤◌, Bool, true, false, cond, nat_eq, codes, Option, None, Some, List, [], ◌∷◌, ◌++◌, length, drop, refl, ap, arith, length-drop, append_assoc, ◌∙◌}
+use Rattle.std.proofs.Common.{
+  ◌≡◌,
+  ℕ,
+  zero,
+  suc,
+  ◌+◌,
+  ◌≤◌,
+  Bool,
+  true,
+  false,
+  cond,
+  nat_eq,
+  codes,
+  Option,
+  None,
+  Some,
+  List,
+  [],
+  ◌∷◌,
+  ◌++◌,
+  length,
+  drop,
+  refl,
+  ap,
+  arith,
+  length-drop,
+  append_assoc,
+  ◌∙◌,
+}
 use Rattle.std.specs.List.{starts_with}
 use Rattle.std.proofs.lemmas.List.{drop-drop}
 use Rattle.plai_lex.specs.declared.quoted.Character.{Character}
@@ -54,10 +82,12 @@ within-same (suc n) (suc m) quote at text p q =
     (omega (arith, length-drop k text)) (omega (arith, length-drop k text)))
 
 -- one item and those behind it
-quoted_from-item : (quote at : ℕ) (text : List ℕ) → quoted_from quote at text ≡ with_item (item_at quote text) at (λ k. quoted_from quote (at + k) (drop k text))
+quoted_from-item : (quote at : ℕ) (text : List ℕ)
+    → quoted_from quote at text ≡ with_item (item_at quote text) at (λ k. quoted_from quote (at + k) (drop k text))
 quoted_from-item quote at [] = refl
 quoted_from-item quote at (b ∷ bs) =
-    with_item-same (item_at quote (b ∷ bs)) at _ _ (item-Long quote (b ∷ bs)) (λ k one. within-same (length bs) (length (drop k (b ∷ bs))) quote (at + k) (drop k (b ∷ bs))
+    with_item-same (item_at quote (b ∷ bs)) at _ _ (item-Long quote (b ∷ bs))
+    (λ k one. within-same (length bs) (length (drop k (b ∷ bs))) quote (at + k) (drop k (b ∷ bs))
     (omega (arith, length-drop k (b ∷ bs))) (omega arith))
 
 -- a token with codes before its own

@@ -1,5 +1,40 @@
 -- Tokens piece by piece.
-use Rattle.std.proofs.Common.{◌≡◌, ℕ, zero, suc, ◌+◌, ◌≤◌, ◌^◌, Bool, true, false, cond, not, ◌&&◌, ◌||◌, nat_eq, nat_lt, codes, pos, Option, None, Some, List, [], ◌∷◌, length, drop, refl, ap, arith, length-drop, ◌∙◌, sym, subst, take_while}
+use Rattle.std.proofs.Common.{
+  ◌≡◌,
+  ℕ,
+  zero,
+  suc,
+  ◌+◌,
+  ◌≤◌,
+  ◌^◌,
+  Bool,
+  true,
+  false,
+  cond,
+  not,
+  ◌&&◌,
+  ◌||◌,
+  nat_eq,
+  nat_lt,
+  codes,
+  pos,
+  Option,
+  None,
+  Some,
+  List,
+  [],
+  ◌∷◌,
+  length,
+  drop,
+  refl,
+  ap,
+  arith,
+  length-drop,
+  ◌∙◌,
+  sym,
+  subst,
+  take_while,
+}
 use Rattle.std.specs.List.{starts_with, prefix_len}
 use Rattle.std.proofs.lemmas.List.{drop-drop}
 use Rattle.plai_lex.specs.declared.token.TokenKind.{TokenKind}
@@ -105,13 +140,15 @@ quoted-IsLong : (quote : ℕ) (body : Body) → LongBody body → IsLong (quoted
 quoted-IsLong quote (Closed codes len) h = found _ len (named (nat_eq quote 39) codes) h
 quoted-IsLong quote (Broken cause at) h = failed cause at
 
-longest-IsLong : (kind : List ℕ → TokenKind) (class : ℕ → Bool) (b : ℕ) (bs : List ℕ) → ((codes : List ℕ) → IsWritten (kind codes)) → IsLong (longest kind class b bs)
+longest-IsLong : (kind : List ℕ → TokenKind) (class : ℕ → Bool) (b : ℕ) (bs : List ℕ) → ((codes : List ℕ) → IsWritten (kind codes))
+    → IsLong (longest kind class b bs)
 longest-IsLong kind class b bs w = found (kind (b ∷ take_while class bs)) _ (w _) (omega arith)
 
 single-IsLong : (b : ℕ) → IsLong (single_at b)
 single-IsLong b =
     either (nat_eq b 40) (one Open tt) (either (nat_eq b 41) (one Close tt) (either (nat_eq b 91) (one OpenList tt) (either (nat_eq b 93) (one CloseList tt)
-    (either (nat_eq b 44) (one Comma tt) (either (nat_eq b 124) (one Bar tt) (either (nat_eq b 33 || nat_eq b 59) (one (Name (b ∷ [])) tt) (failed BadCharacter 0)))))))
+    (either (nat_eq b 44) (one Comma tt) (either (nat_eq b 124) (one Bar tt)
+    (either (nat_eq b 33 || nat_eq b 59) (one (Name (b ∷ [])) tt) (failed BadCharacter 0)))))))
 
 token-IsLong : (b : ℕ) (bs : List ℕ) → IsLong (token_at b bs)
 token-IsLong b bs =
@@ -150,14 +187,17 @@ tokens_from-piece : (at : ℕ) (tight : Bool) (text : List ℕ)
     → tokens_from at tight text ≡ with_piece (piece_at text) at tight (λ k b. tokens_from (at + k) b (drop k text))
 tokens_from-piece at tight [] = refl
 tokens_from-piece at tight (b ∷ bs) =
-    with_piece-same (piece_at (b ∷ bs)) at tight _ _ (piece-IsLong (b ∷ bs)) (λ k t one. within-same (length bs) (length (drop k (b ∷ bs))) (at + k) t (drop k (b ∷ bs))
+    with_piece-same (piece_at (b ∷ bs)) at tight _ _ (piece-IsLong (b ∷ bs))
+    (λ k t one. within-same (length bs) (length (drop k (b ∷ bs))) (at + k) t (drop k (b ∷ bs))
     (omega (arith, length-drop k (b ∷ bs))) (omega arith))
 
 with_piece-behind : (piece : Piece) (at : ℕ) (tight : Bool) (text : List ℕ)
-    → with_piece piece at tight (λ k b. tokens_from (at + k) b (drop k (drop at text))) ≡ with_piece piece at tight (λ k b. tokens_from (at + k) b (drop (at + k) text))
+    → with_piece piece at tight (λ k b. tokens_from (at + k) b (drop k (drop at text)))
+    ≡ with_piece piece at tight (λ k b. tokens_from (at + k) b (drop (at + k) text))
 with_piece-behind Nothing at tight text = refl
 with_piece-behind (Gap len) at tight text = ap (tokens_from (at + len) false) (drop-drop len at text)
-with_piece-behind (Found kind len) at tight text = ap (λ t. with_token (record { kind = kind; at = at; tight = tight }) (tokens_from (at + len) true t)) (drop-drop len at text)
+with_piece-behind (Found kind len) at tight text =
+    ap (λ t. with_token (record { kind = kind; at = at; tight = tight }) (tokens_from (at + len) true t)) (drop-drop len at text)
 with_piece-behind (Failed cause place) at tight text = refl
 
 -- the same at a place of a text
@@ -172,7 +212,8 @@ pub skips : (at len : ℕ) (tight : Bool) (text : List ℕ) (piece : Piece) (who
 skips at len tight text piece whole is gap-is same = rw (piece_is at tight text piece is, gap-is) at same
 
 -- a token is given
-pub gives : (at len : ℕ) (tight : Bool) (kind : TokenKind) (text : List ℕ) (piece : Piece) (whole : Tokens) → piece ≡ piece_at (drop at text) → piece ≡ Found kind len
+pub gives : (at len : ℕ) (tight : Bool) (kind : TokenKind) (text : List ℕ) (piece : Piece) (whole : Tokens) → piece ≡ piece_at (drop at text)
+    → piece ≡ Found kind len
     → tokens_from at tight (drop at text) ≡ whole
     → whole ≡ with_token (record { kind = kind; at = at; tight = tight }) (tokens_from (at + len) true (drop (at + len) text))
 gives at len tight kind text piece whole is found-is same = rw (piece_is at tight text piece is, found-is) at (sym same)

@@ -35,4 +35,5 @@ Fits edit = IfOk edit IsReadableEdit
 pub pair_readable : (edits : List (Result Edit EditCause)) (number : ℕ) → All Fits edits → All Fits (edits ++ Ok (removal number) ∷ Ok (addition number) ∷ [])
 pair_readable edits number all =
     subst (All Fits) (append_assoc edits (Ok (removal number) ∷ []) (Ok (addition number) ∷ []))
-    (All-push Fits (edits ++ Ok (removal number) ∷ []) (Ok (addition number)) (All-push Fits edits (Ok (removal number)) all (removal_readable number)) (addition_readable number))
+    (All-push Fits (edits ++ Ok (removal number) ∷ []) (Ok (addition number)) (All-push Fits edits (Ok (removal number)) all (removal_readable number))
+    (addition_readable number))

@@ -39,7 +39,8 @@ pred_more : (count i : ℕ) → with_clauses (with_preds count i) i (draw count 
 unfolding with_preds
 pred_more count i = refl
 
-pub one_pred : (count i first second : ℕ) (program : ProgramView) → program ≡ with_preds count i → first ≡ draw count (2 * i + 1) → second ≡ draw count (2 * i + 2)
+pub one_pred : (count i first second : ℕ) (program : ProgramView) → program ≡ with_preds count i → first ≡ draw count (2 * i + 1)
+    → second ≡ draw count (2 * i + 2)
     → with_clauses program i first second ≡ with_preds count (i + 1)
 one_pred count i first second program e f s =
     ap (λ p. with_clauses p i first second) e ∙ ap (λ x. with_clauses (with_preds count i) i x second) f

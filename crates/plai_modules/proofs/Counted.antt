@@ -1,5 +1,28 @@
 -- How many clauses, entries and checks a loaded program has.
-use Rattle.std.proofs.Common.{◌≡◌, ℕ, ◌+◌, ◌≤◌, Bool, true, false, cond, List, [], ◌∷◌, ◌++◌, take, drop, length, refl, ap, sym, ◌∙◌, subst, arith, if◌then◌else◌}
+use Rattle.std.proofs.Common.{
+  ◌≡◌,
+  ℕ,
+  ◌+◌,
+  ◌≤◌,
+  Bool,
+  true,
+  false,
+  cond,
+  List,
+  [],
+  ◌∷◌,
+  ◌++◌,
+  take,
+  drop,
+  length,
+  refl,
+  ap,
+  sym,
+  ◌∙◌,
+  subst,
+  arith,
+  if◌then◌else◌,
+}
 use Rattle.std.specs.Prelude.{Result, Ok, Err, is_some, count_by}
 use Rattle.std.specs.List.{sum_by}
 use Rattle.std.proofs.lemmas.List.{length-append, take-append-drop}
@@ -40,13 +63,21 @@ clause-counted (d ∷ ds) pred clause = case (same_pred d.pred pred) (with_claus
     longer : Definition
     longer = record { pred = d.pred; clauses = d.clauses ++ clause ∷ [] }
 
-    case : (same : Bool) (rest : List Definition) → clauses_in rest ≡ clauses_in ds + 1 → clauses_in (if same then longer ∷ ds else d ∷ rest) ≡ clauses_in (d ∷ ds) + 1
+    case : (same : Bool) (rest : List Definition) → clauses_in rest ≡ clauses_in ds + 1
+        → clauses_in (if same then longer ∷ ds else d ∷ rest) ≡ clauses_in (d ∷ ds) + 1
     case true rest e =
-        omega (arith, sum_by-cons (λ (x : Definition). length x.clauses) longer ds, sum_by-cons (λ (x : Definition). length x.clauses) d ds, length-append d.clauses (clause ∷ []))
+        omega (
+          arith,
+          sum_by-cons (λ (x : Definition). length x.clauses) longer ds,
+          sum_by-cons (λ (x : Definition). length x.clauses) d ds,
+          length-append d.clauses (clause ∷ []),
+        )
     case false rest e = omega (arith, sum_by-cons (λ (x : Definition). length x.clauses) d rest, sum_by-cons (λ (x : Definition). length x.clauses) d ds)
 
-one-clause : (m : List ℕ) (program : ProgramView) (given : Result clause.Clause ClauseCause) → items_of (with_clause_from program m given) ≤ items_of program + 1
-one-clause m program (Ok clause) = omega (arith, clause-counted program.definitions (record { «module» = m; name = clause.name; arity = length clause.head }) clause)
+one-clause : (m : List ℕ) (program : ProgramView) (given : Result clause.Clause ClauseCause)
+    → items_of (with_clause_from program m given) ≤ items_of program + 1
+one-clause m program (Ok clause) = omega
+    (arith, clause-counted program.definitions (record { «module» = m; name = clause.name; arity = length clause.head }) clause)
 one-clause m program (Err cause) = omega arith
 
 module _ (m : List ℕ) (imports : Imports) where
@@ -56,7 +87,8 @@ module _ (m : List ℕ) (imports : Imports) where
   one-item program (Check c) = omega (arith, length-inserted {A = check.Check})
   one-item program (Clause read) = one-clause m program (clause_of m imports read)
 
-  all-items : (items : List NumberedItem) (program : ProgramView) → items_of (with_items m imports program items) ≤ items_of program + count_by (λ numbered. source.is_counted numbered.item) items
+  all-items : (items : List NumberedItem) (program : ProgramView)
+      → items_of (with_items m imports program items) ≤ items_of program + count_by (λ numbered. source.is_counted numbered.item) items
   all-items [] program = omega arith
   all-items (n ∷ items) program =
       let first = one-item program n.item in
@@ -78,7 +110,8 @@ module _ (files : List FileItems) where
   tested false refusal program behind file imports e = imported program behind file imports e
 
   one-file : (program behind : ProgramView) (file : FileItems) → linked files program file ≡ Ok behind → items_of behind ≤ items_of program + counted file
-  one-file program behind file e = tested (is_some (module_in program.modules file.module)) (source.refusal 1 DuplicateModule) program behind file (imports_of files file.items) e
+  one-file program behind file e = tested (is_some (module_in program.modules file.module)) (source.refusal 1 DuplicateModule) program behind file
+      (imports_of files file.items) e
 
   next : (number : ℕ) (more : List FileItems) (given : Result ProgramView source.Refusal) (whole : ProgramView)
       → and_then (in_file number given) (λ behind. linked_from files (number + 1) behind more) ≡ Ok whole
@@ -86,8 +119,10 @@ module _ (files : List FileItems) where
   next number more (Ok behind) whole e = (behind, refl, e)
   next number more (Err refusal) whole e = cc
 
-  all-files : (more : List FileItems) (number : ℕ) (program whole : ProgramView) → linked_from files number program more ≡ Ok whole → items_of whole ≤ items_of program + counted_in more
-  all-files [] number program whole e = let same : program ≡ whole = cc in subst (λ (p : ProgramView). items_of p ≤ items_of program + counted_in []) same (omega arith)
+  all-files : (more : List FileItems) (number : ℕ) (program whole : ProgramView) → linked_from files number program more ≡ Ok whole
+      → items_of whole ≤ items_of program + counted_in more
+  all-files [] number program whole e = let same : program ≡ whole = cc in
+      subst (λ (p : ProgramView). items_of p ≤ items_of program + counted_in []) same (omega arith)
   all-files (file ∷ more) number program whole e =
       let t = next number more (linked files program file) whole e in
       let first = one-file program t.0 file t.1 in

@@ -29,29 +29,35 @@ head_imported items imports from named (Some file) = refl
 
 module _ (files : List FileItems) (items : List NumberedItem) where
   heads_item : (imports : Imports) (item : Item) → behind_item (map head_of_file files) items imports item ≡ behind_item files items imports item
-  heads_item imports (UseModule from named) = ap (imported_from items imports from named) (head_found files from) ∙ head_imported items imports from named (file_of files from)
+  heads_item imports (UseModule from named) =
+      ap (imported_from items imports from named) (head_found files from) ∙ head_imported items imports from named (file_of files from)
   heads_item imports (Entry e) = refl
   heads_item imports (Check c) = refl
   heads_item imports (Clause read) = refl
 
-  heads_term : (imports : Imports) (numbered : NumberedItem) → behind_term (map head_of_file files) items imports numbered ≡ behind_term files items imports numbered
+  heads_term : (imports : Imports) (numbered : NumberedItem)
+      → behind_term (map head_of_file files) items imports numbered ≡ behind_term files items imports numbered
   heads_term imports numbered = ap (at_term numbered.term) (heads_item imports numbered.item)
 
-  heads_steps : (rest : List NumberedItem) (imports : Imports) → steps (behind_term (map head_of_file files) items) imports rest ≡ steps (behind_term files items) imports rest
+  heads_steps : (rest : List NumberedItem) (imports : Imports)
+      → steps (behind_term (map head_of_file files) items) imports rest ≡ steps (behind_term files items) imports rest
   heads_steps [] imports = refl
   heads_steps (numbered ∷ rest) imports =
       ap (λ r. and_then r (λ behind. steps (behind_term (map head_of_file files) items) behind rest)) (heads_term imports numbered)
       ∙ next (heads_steps rest) (behind_term files items imports numbered)
     where
       next : ((behind : Imports) → steps (behind_term (map head_of_file files) items) behind rest ≡ steps (behind_term files items) behind rest)
-          → (r : Result Imports source.Refusal) → and_then r (λ behind. steps (behind_term (map head_of_file files) items) behind rest) ≡ and_then r (λ behind. steps (behind_term files items) behind rest)
+          → (r : Result Imports source.Refusal) → and_then r (λ behind. steps (behind_term (map head_of_file files) items) behind rest)
+          ≡ and_then r (λ behind. steps (behind_term files items) behind rest)
       next same (Ok behind) = same behind
       next same (Err refusal) = refl
 
   pub heads_imports : imports_of (map head_of_file files) items ≡ imports_of files items
   heads_imports = heads_steps items []
 
-pub heads_linked : (files : List FileItems) (program : ProgramView) (file : FileItems) → linked (map head_of_file files) program file ≡ linked files program file
+pub heads_linked : (files : List FileItems) (program : ProgramView) (file : FileItems)
+    → linked (map head_of_file files) program file ≡ linked files program file
 heads_linked files program file =
-    ap (λ (r : Result Imports source.Refusal). if is_some (module_in program.modules file.module) then Err (source.refusal 1 DuplicateModule) else and_then r (λ imports. Ok (with_file program file imports)))
+    ap (λ (r : Result Imports source.Refusal). if is_some (module_in program.modules file.module) then Err (source.refusal 1 DuplicateModule) else and_then r
+    (λ imports. Ok (with_file program file imports)))
     (heads_imports files file.items)

@@ -1,5 +1,29 @@
 -- What a file imports, where none of its directives is refused.
-use Rattle.std.proofs.Common.{◌≡◌, ℕ, Bool, true, false, ◌&&◌, ◌||◌, not, nat_eq, eq-eqb, List, [], ◌∷◌, ◌++◌, ◌⊎◌, inl, inr, refl, ap, sym, ◌∙◌, subst, if◌then◌else◌}
+use Rattle.std.proofs.Common.{
+  ◌≡◌,
+  ℕ,
+  Bool,
+  true,
+  false,
+  ◌&&◌,
+  ◌||◌,
+  not,
+  nat_eq,
+  eq-eqb,
+  List,
+  [],
+  ◌∷◌,
+  ◌++◌,
+  ◌⊎◌,
+  inl,
+  inr,
+  refl,
+  ap,
+  sym,
+  ◌∙◌,
+  subst,
+  if◌then◌else◌,
+}
 use Rattle.std.specs.Prelude.{Option, Some, None, is_some, Result, Ok, Err}
 use Rattle.std.specs.Option.{option_map_or}
 use Rattle.std.specs.List.{list_any, list_all}
@@ -14,15 +38,32 @@ use Rattle.plai_sources.specs.declared.items.Item.{Item}
 use Rattle.plai_sources.specs.declared.items.Item.TheVariants.{UseModule, Entry, Check, Clause}
 use Rattle.plai_sources.specs.Items.{Refusal}
 use Rattle.plai_modules.specs.Steps.{and_then, steps}
-use Rattle.plai_modules.specs.Importing.{file_of, keys_of, is_exported, has_clause, is_from_another, clashes, with_import, with_imports, imported_from, at_term, behind_item, behind_term, imports_of, IsImport}
+use Rattle.plai_modules.specs.Importing.{
+  file_of,
+  keys_of,
+  is_exported,
+  has_clause,
+  is_from_another,
+  clashes,
+  with_import,
+  with_imports,
+  imported_from,
+  at_term,
+  behind_item,
+  behind_term,
+  imports_of,
+  IsImport,
+}
 
 -- looking up a key
 
-kept-by : (test : Bool) (k m : List ℕ) (p q : Option (List ℕ)) → (p ≡ Some m → q ≡ Some m) → (if test then Some k else p) ≡ Some m → (if test then Some k else q) ≡ Some m
+kept-by : (test : Bool) (k m : List ℕ) (p q : Option (List ℕ)) → (p ≡ Some m → q ≡ Some m) → (if test then Some k else p) ≡ Some m
+    → (if test then Some k else q) ≡ Some m
 kept-by true k m p q f e = e
 kept-by false k m p q f e = f e
 
-exporter-kept : (xs ys : List (List ℕ × ℕ × List ℕ)) (name : List ℕ) (arity : ℕ) (m : List ℕ) → exporter xs name arity ≡ Some m → exporter (xs ++ ys) name arity ≡ Some m
+exporter-kept : (xs ys : List (List ℕ × ℕ × List ℕ)) (name : List ℕ) (arity : ℕ) (m : List ℕ) → exporter xs name arity ≡ Some m
+    → exporter (xs ++ ys) name arity ≡ Some m
 exporter-kept [] ys name arity m e = cc
 exporter-kept (x ∷ xs) ys name arity m e =
     kept-by (pointwise nat_eq x.0 name && nat_eq x.1 arity) x.2 m (exporter xs name arity) (exporter (xs ++ ys) name arity) (exporter-kept xs ys name arity m) e
@@ -31,10 +72,12 @@ behind-by : (test : Bool) (k : List ℕ) (p q r : Option (List ℕ)) → (p ≡ 
 behind-by true k p q r f e = cc
 behind-by false k p q r f e = f e
 
-exporter-behind : (xs ys : List (List ℕ × ℕ × List ℕ)) (name : List ℕ) (arity : ℕ) → exporter xs name arity ≡ None → exporter (xs ++ ys) name arity ≡ exporter ys name arity
+exporter-behind : (xs ys : List (List ℕ × ℕ × List ℕ)) (name : List ℕ) (arity : ℕ) → exporter xs name arity ≡ None
+    → exporter (xs ++ ys) name arity ≡ exporter ys name arity
 exporter-behind [] ys name arity e = refl
 exporter-behind (x ∷ xs) ys name arity e =
-    behind-by (pointwise nat_eq x.0 name && nat_eq x.1 arity) x.2 (exporter xs name arity) (exporter (xs ++ ys) name arity) (exporter ys name arity) (exporter-behind xs ys name arity) e
+    behind-by (pointwise nat_eq x.0 name && nat_eq x.1 arity) x.2 (exporter xs name arity) (exporter (xs ++ ys) name arity) (exporter ys name arity)
+    (exporter-behind xs ys name arity) e
 
 same-key : (name : List ℕ) (arity : ℕ) → (pointwise nat_eq name name && nat_eq arity arity) ≡ true
 same-key name arity = rw (nat_list_eq_equiv.refl name) (eq-eqb arity arity refl)
@@ -49,17 +92,20 @@ module _ (from : List ℕ) (imports : List (List ℕ × ℕ × List ℕ)) (key :
   abbrev added : Option (List ℕ) → List (List ℕ × ℕ × List ℕ)
   added there = if is_some there then imports else imports ++ (key.0, key.1, from) ∷ []
 
-  kept-added : (there : Option (List ℕ)) (name : List ℕ) (arity : ℕ) (m : List ℕ) → exporter imports name arity ≡ Some m → exporter (added there) name arity ≡ Some m
+  kept-added : (there : Option (List ℕ)) (name : List ℕ) (arity : ℕ) (m : List ℕ) → exporter imports name arity ≡ Some m
+      → exporter (added there) name arity ≡ Some m
   kept-added (Some k) name arity m e = e
   kept-added None name arity m e = exporter-kept imports ((key.0, key.1, from) ∷ []) name arity m e
 
-  pub import-kept : (name : List ℕ) (arity : ℕ) (m : List ℕ) → exporter imports name arity ≡ Some m → exporter (with_import from imports key) name arity ≡ Some m
+  pub import-kept : (name : List ℕ) (arity : ℕ) (m : List ℕ) → exporter imports name arity ≡ Some m
+      → exporter (with_import from imports key) name arity ≡ Some m
   import-kept name arity m e = kept-added (exporter imports key.0 key.1) name arity m e
 
   same-module : (m : List ℕ) → not (pointwise nat_eq m from) ≡ false → m ≡ from
   same-module m e = same_text m from (sym (negated (pointwise nat_eq m from) e))
 
-  found-added : (there : Option (List ℕ)) → exporter imports key.0 key.1 ≡ there → option_map_or (λ other. not (pointwise nat_eq other from)) there false ≡ false
+  found-added : (there : Option (List ℕ)) → exporter imports key.0 key.1 ≡ there
+      → option_map_or (λ other. not (pointwise nat_eq other from)) there false ≡ false
       → exporter (added there) key.0 key.1 ≡ Some from
   found-added (Some m) e free = e ∙ ap Some (same-module m free)
   found-added None e free =
@@ -72,7 +118,8 @@ module _ (from : List ℕ) (imports : List (List ℕ × ℕ × List ℕ)) (key :
   free-behind true = ap not (nat_list_eq_equiv.refl from)
   free-behind false = refl
 
-  free-found : (there mine : Option (List ℕ)) (other : List ℕ × ℕ) → exporter imports other.0 other.1 ≡ mine → option_map_or (λ m. not (pointwise nat_eq m from)) mine false ≡ false
+  free-found : (there mine : Option (List ℕ)) (other : List ℕ × ℕ) → exporter imports other.0 other.1 ≡ mine
+      → option_map_or (λ m. not (pointwise nat_eq m from)) mine false ≡ false
       → is_from_another (added there) from other ≡ false
   free-found (Some k) mine other e free = ap (λ o. option_map_or (λ m. not (pointwise nat_eq m from)) o false) e ∙ free
   free-found None (Some m) other e free =
@@ -89,7 +136,8 @@ module _ (from : List ℕ) (imports : List (List ℕ × ℕ × List ℕ)) (key :
 imports-kept : (from : List ℕ) (keys : List (List ℕ × ℕ)) (imports : List (List ℕ × ℕ × List ℕ)) (name : List ℕ) (arity : ℕ) (m : List ℕ)
     → exporter imports name arity ≡ Some m → exporter (with_imports from imports keys) name arity ≡ Some m
 imports-kept from [] imports name arity m e = e
-imports-kept from (key ∷ keys) imports name arity m e = imports-kept from keys (with_import from imports key) name arity m (import-kept from imports key name arity m e)
+imports-kept from (key ∷ keys) imports name arity m e =
+    imports-kept from keys (with_import from imports key) name arity m (import-kept from imports key name arity m e)
 
 imports-found : (from : List ℕ) (keys : List (List ℕ × ℕ)) (imports : List (List ℕ × ℕ × List ℕ))
     → ((other : List ℕ × ℕ) → IsIn other keys → is_from_another imports from other ≡ false)
@@ -114,7 +162,8 @@ none-of test [] e key i = absurd i
 none-of test (k ∷ keys) e key (inl same) = subst (λ (x : List ℕ × ℕ). test x ≡ false) same (neither (test k) (list_any test keys) e).0
 none-of test (k ∷ keys) e key (inr i) = none-of test keys (neither (test k) (list_any test keys) e).1 key i
 
-accepted : (exported clash : Bool) (x b : List (List ℕ × ℕ × List ℕ)) → (if not exported then Err NotExported else (if clash then Err ImportClash else Ok x)) ≡ Ok b → (clash ≡ false) × (x ≡ b)
+accepted : (exported clash : Bool) (x b : List (List ℕ × ℕ × List ℕ))
+    → (if not exported then Err NotExported else (if clash then Err ImportClash else Ok x)) ≡ Ok b → (clash ≡ false) × (x ≡ b)
 accepted false clash x b e = cc
 accepted true true x b e = cc
 accepted true false x b e = (refl, cc)
@@ -133,7 +182,8 @@ module _ (items : List NumberedItem) (imports behind : List (List ℕ × ℕ × 
   directive-found file e key i =
       let keys = keys_of named file.exports in
       let p = accepted (list_all (is_exported file.exports) keys) (list_any (clashes items imports from) keys) (with_imports from imports keys) behind e in
-      let free = λ (other : List ℕ × ℕ) (j : IsIn other keys). (neither (has_clause items other) (is_from_another imports from other) (none-of (clashes items imports from) keys p.0 other j)).1 in
+      let free = λ (other : List ℕ × ℕ) (j : IsIn other keys).
+      (neither (has_clause items other) (is_from_another imports from other) (none-of (clashes items imports from) keys p.0 other j)).1 in
       subst (λ (x : List (List ℕ × ℕ × List ℕ)). exporter x key.0 key.1 ≡ Some from) p.1 (imports-found from keys imports free key i)
 
 -- the imports of a file
@@ -142,9 +192,12 @@ module _ (files : List FileItems) (items : List NumberedItem) where
   item-kept : (imports behind : List (List ℕ × ℕ × List ℕ)) (item : Item) → behind_item files items imports item ≡ Ok behind
       → (name : List ℕ) (arity : ℕ) (m : List ℕ) → exporter imports name arity ≡ Some m → exporter behind name arity ≡ Some m
   item-kept imports behind (UseModule from named) e name arity m f = directive-kept items imports behind from named (file_of files from) e name arity m f
-  item-kept imports behind (Entry x) e name arity m f = let same : imports ≡ behind = cc in subst (λ (x : List (List ℕ × ℕ × List ℕ)). exporter x name arity ≡ Some m) same f
-  item-kept imports behind (Check x) e name arity m f = let same : imports ≡ behind = cc in subst (λ (x : List (List ℕ × ℕ × List ℕ)). exporter x name arity ≡ Some m) same f
-  item-kept imports behind (Clause x) e name arity m f = let same : imports ≡ behind = cc in subst (λ (x : List (List ℕ × ℕ × List ℕ)). exporter x name arity ≡ Some m) same f
+  item-kept imports behind (Entry x) e name arity m f = let same : imports ≡ behind = cc in
+      subst (λ (x : List (List ℕ × ℕ × List ℕ)). exporter x name arity ≡ Some m) same f
+  item-kept imports behind (Check x) e name arity m f = let same : imports ≡ behind = cc in
+      subst (λ (x : List (List ℕ × ℕ × List ℕ)). exporter x name arity ≡ Some m) same f
+  item-kept imports behind (Clause x) e name arity m f = let same : imports ≡ behind = cc in
+      subst (λ (x : List (List ℕ × ℕ × List ℕ)). exporter x name arity ≡ Some m) same f
 
   unnumbered : (term : ℕ) (r : Result (List (List ℕ × ℕ × List ℕ)) LoadCause) (behind : List (List ℕ × ℕ × List ℕ)) → at_term term r ≡ Ok behind → r ≡ Ok behind
   unnumbered term (Ok x) behind e = let same : x ≡ behind = cc in ap Ok same
@@ -159,17 +212,21 @@ module _ (files : List FileItems) (items : List NumberedItem) where
 
   all-kept : (rest : List NumberedItem) (imports whole : List (List ℕ × ℕ × List ℕ)) → steps (behind_term files items) imports rest ≡ Ok whole
       → (name : List ℕ) (arity : ℕ) (m : List ℕ) → exporter imports name arity ≡ Some m → exporter whole name arity ≡ Some m
-  all-kept [] imports whole e name arity m f = let same : imports ≡ whole = cc in subst (λ (x : List (List ℕ × ℕ × List ℕ)). exporter x name arity ≡ Some m) same f
+  all-kept [] imports whole e name arity m f = let same : imports ≡ whole = cc in
+      subst (λ (x : List (List ℕ × ℕ × List ℕ)). exporter x name arity ≡ Some m) same f
   all-kept (n ∷ rest) imports whole e name arity m f =
       let t = taken (behind_term files items imports n) rest whole e in
-      all-kept rest t.0 whole t.2 name arity m (item-kept imports t.0 n.item (unnumbered n.term (behind_item files items imports n.item) t.0 t.1) name arity m f)
+      all-kept rest t.0 whole t.2 name arity m
+      (item-kept imports t.0 n.item (unnumbered n.term (behind_item files items imports n.item) t.0 t.1) name arity m f)
 
   module _ (numbered : NumberedItem) (from : List ℕ) (named : Option (List (List ℕ × ℕ))) (file : FileItems)
-      (says : numbered.item ≡ UseModule from named) (there : file_of files from ≡ Some file) (key : List ℕ × ℕ) (listed : IsIn key (keys_of named file.exports)) where
+      (says : numbered.item ≡ UseModule from named) (there : file_of files from ≡ Some file) (key : List ℕ × ℕ)
+      (listed : IsIn key (keys_of named file.exports)) where
     here : (imports behind : List (List ℕ × ℕ × List ℕ)) → behind_term files items imports numbered ≡ Ok behind → exporter behind key.0 key.1 ≡ Some from
     here imports behind e =
         directive-found items imports behind from named file
-        (ap (imported_from items imports from named) (sym there) ∙ ap (behind_item files items imports) (sym says) ∙ unnumbered numbered.term (behind_item files items imports numbered.item) behind e)
+        (ap (imported_from items imports from named) (sym there) ∙ ap (behind_item files items imports) (sym says)
+        ∙ unnumbered numbered.term (behind_item files items imports numbered.item) behind e)
         key listed
 
     pub named-found : (rest : List NumberedItem) (imports whole : List (List ℕ × ℕ × List ℕ)) → steps (behind_term files items) imports rest ≡ Ok whole
@@ -201,7 +258,8 @@ module _ (from : List ℕ) where
   abbrev IsOneOf : List (List ℕ × ℕ) → Import → Type 0
   IsOneOf keys i = (key : List ℕ × ℕ) × (IsIn key keys) × (i ≡ (key.0, key.1, from))
 
-  added-is : (imports : List Import) (key : List ℕ × ℕ) (there : Option (List ℕ)) (i : Import) → IsIn i (added from imports key there) → IsIn i imports ⊎ (i ≡ (key.0, key.1, from))
+  added-is : (imports : List Import) (key : List ℕ × ℕ) (there : Option (List ℕ)) (i : Import) → IsIn i (added from imports key there)
+      → IsIn i imports ⊎ (i ≡ (key.0, key.1, from))
   added-is imports key (Some m) i j = inl j
   added-is imports key None i j = last (IsIn-append i imports ((key.0, key.1, from) ∷ []) j)
     where
@@ -227,7 +285,8 @@ all-of test [] e key i = absurd i
 all-of test (k ∷ keys) e key (inl same) = subst (λ (x : List ℕ × ℕ). test x ≡ true) same (both (test k) (list_all test keys) e).0
 all-of test (k ∷ keys) e key (inr i) = all-of test keys (both (test k) (list_all test keys) e).1 key i
 
-every-key : (exported clash : Bool) (x b : List Import) → (if not exported then Err NotExported else (if clash then Err ImportClash else Ok x)) ≡ Ok b → exported ≡ true
+every-key : (exported clash : Bool) (x b : List Import) → (if not exported then Err NotExported else (if clash then Err ImportClash else Ok x)) ≡ Ok b
+    → exported ≡ true
 every-key false clash x b e = cc
 every-key true clash x b e = refl
 
@@ -235,8 +294,10 @@ module _ (files : List FileItems) (items : List NumberedItem) where
   AreImports : List Import → Type 0
   AreImports imports = (i : Import) → IsIn i imports → IsImport files items i
 
-  directive-are : (directive : NumberedItem) → IsIn directive items → (imports behind : List Import) (from : List ℕ) (named : Option (List (List ℕ × ℕ))) → directive.item ≡ UseModule from named
-      → (there : Option FileItems) → file_of files from ≡ there → imported_from items imports from named there ≡ Ok behind → AreImports imports → AreImports behind
+  directive-are : (directive : NumberedItem) → IsIn directive items → (imports behind : List Import) (from : List ℕ) (named : Option (List (List ℕ × ℕ)))
+      → directive.item ≡ UseModule from named
+      → (there : Option FileItems) → file_of files from ≡ there → imported_from items imports from named there ≡ Ok behind → AreImports imports
+      → AreImports behind
   unfolding AreImports
   directive-are directive stands imports behind from named says None f e before i j = cc
   directive-are directive stands imports behind from named says (Some file) f e before i j =
@@ -255,7 +316,9 @@ module _ (files : List FileItems) (items : List NumberedItem) where
           (record {
             exporting = file;
             there = f;
-            exported = all-of (is_exported file.exports) keys (every-key (list_all (is_exported file.exports) keys) (list_any (clashes items imports from) keys) (with_imports from imports keys) behind e) key listed;
+            exported = all-of (is_exported file.exports) keys
+                (every-key (list_all (is_exported file.exports) keys) (list_any (clashes items imports from) keys) (with_imports from imports keys) behind
+                e) key listed;
             directive = directive;
             stands = stands;
             named = named;
@@ -267,13 +330,16 @@ module _ (files : List FileItems) (items : List NumberedItem) where
   unchanged : (imports behind : List Import) → imports ≡ behind → AreImports imports → AreImports behind
   unchanged imports behind same before = subst AreImports same before
 
-  item-are : (n : NumberedItem) → IsIn n items → (imports behind : List Import) (item : Item) → n.item ≡ item → behind_item files items imports item ≡ Ok behind → AreImports imports → AreImports behind
-  item-are n stands imports behind (UseModule from named) says e before = directive-are n stands imports behind from named says (file_of files from) refl e before
+  item-are : (n : NumberedItem) → IsIn n items → (imports behind : List Import) (item : Item) → n.item ≡ item
+      → behind_item files items imports item ≡ Ok behind → AreImports imports → AreImports behind
+  item-are n stands imports behind (UseModule from named) says e before =
+      directive-are n stands imports behind from named says (file_of files from) refl e before
   item-are n stands imports behind (Entry x) says e before = let same : imports ≡ behind = cc in unchanged imports behind same before
   item-are n stands imports behind (Check x) says e before = let same : imports ≡ behind = cc in unchanged imports behind same before
   item-are n stands imports behind (Clause x) says e before = let same : imports ≡ behind = cc in unchanged imports behind same before
 
-  all-are : (rest : List NumberedItem) (imports whole : List Import) → ((n : NumberedItem) → IsIn n rest → IsIn n items) → steps (behind_term files items) imports rest ≡ Ok whole → AreImports imports → AreImports whole
+  all-are : (rest : List NumberedItem) (imports whole : List Import) → ((n : NumberedItem) → IsIn n rest → IsIn n items)
+      → steps (behind_term files items) imports rest ≡ Ok whole → AreImports imports → AreImports whole
   all-are [] imports whole among e before = let same : imports ≡ whole = cc in unchanged imports whole same before
   all-are (n ∷ rest) imports whole among e before =
       let t = taken files items (behind_term files items imports n) rest whole e in

@@ -53,7 +53,8 @@ texts_of = map (λ file. file.text)
 module _ (files : List NamedText) (i there : ℕ) (read : List FileItems) (all : Result (List FileItems) Refusal)
     (held : all ≡ behind read (files_from (i + 1) there (texts_of (drop i files)))) where
   turn_of : (file : NamedText) → i < length files → file ≡ get_or files i file
-      → all ≡ behind read (and_then (in_file (i + 1) (source.items_of file.text there)) (λ items. in_front items (files_from (i + 1 + 1) items.count (texts_of (drop (i + 1) files)))))
+      → all ≡ behind read (and_then (in_file (i + 1) (source.items_of file.text there))
+      (λ items. in_front items (files_from (i + 1 + 1) items.count (texts_of (drop (i + 1) files)))))
   turn_of file h e = held ∙ ap (λ fs. behind read (files_from (i + 1) there (texts_of fs))) (rest_of files i file h e)
 
   pub read_more : (file : NamedText) (items : FileItems) → i < length files → file ≡ get_or files i file → source.items_of file.text there ≡ Ok items
@@ -63,7 +64,8 @@ module _ (files : List NamedText) (i there : ℕ) (read : List FileItems) (all :
       ∙ ap (λ r. behind read (and_then (in_file (i + 1) r) (λ f. in_front f (files_from (i + 1 + 1) f.count (texts_of (drop (i + 1) files)))))) s
       ∙ behind-in_front read items (files_from (i + 1 + 1) items.count (texts_of (drop (i + 1) files)))
 
-  pub read_fails : (file : NamedText) (fail : ItemsFail) → i < length files → file ≡ get_or files i file → AnswersFile (source.items_of file.text there) (Err fail)
+  pub read_fails : (file : NamedText) (fail : ItemsFail) → i < length files → file ≡ get_or files i file
+      → AnswersFile (source.items_of file.text there) (Err fail)
       → Answers all (Err (fail_in (i + 1) fail))
   read_fails file items_fail.Memory h e s = tt
   read_fails file (items_fail.Refused term cause) h e s =
@@ -80,6 +82,7 @@ unfolding loaded
 load_fails texts Memory h = tt
 load_fails texts (Refused file term cause) h = ap (λ r. and_then r program_of) h
 
-pub load_links : (texts : List (List ℕ)) (files : List FileItems) (answer : Result ProgramView LoadFail) → files_from 1 0 texts ≡ Ok files → Answers (program_of files) answer → Answers (loaded texts) answer
+pub load_links : (texts : List (List ℕ)) (files : List FileItems) (answer : Result ProgramView LoadFail) → files_from 1 0 texts ≡ Ok files
+    → Answers (program_of files) answer → Answers (loaded texts) answer
 unfolding loaded
 load_links texts files answer e h = subst (λ (r : Result ProgramView Refusal). Answers r answer) (sym (ap (λ r. and_then r program_of) e)) h

@@ -9,7 +9,24 @@ use Rattle.plai_clauses.specs.declared.clause.Literal.{Literal}
 use Rattle.plai_clauses.specs.declared.cause.ClauseCause.{ClauseCause}
 use Rattle.plai_clauses.specs.declared.cause.ClauseCause.TheVariants.{TooManySlots}
 use Rattle.plai_clauses.specs.Builtins.{is_refused_key}
-use Rattle.plai_clauses.specs.ClauseOf.{unless, cause_of_key, target_of, head_of, literal_in, literal_of, in_front, body_of, goals_of, widest, within_slots, clause_with, clause_from, clause_in, clause_of, two_arguments}
+use Rattle.plai_clauses.specs.ClauseOf.{
+  unless,
+  cause_of_key,
+  target_of,
+  head_of,
+  literal_in,
+  literal_of,
+  in_front,
+  body_of,
+  goals_of,
+  widest,
+  within_slots,
+  clause_with,
+  clause_from,
+  clause_in,
+  clause_of,
+  two_arguments,
+}
 
 -- literals with as many arguments each, or the same cause
 SameWidth : Result Literal ClauseCause → Result Literal ClauseCause → Type 0
@@ -30,7 +47,8 @@ unfolding SameWidth
 unless_same (Some c) a b e = tt
 unless_same None a b e = e
 
-in_front_same : (a b : Result Literal ClauseCause) (xs ys : Result (List Literal) ClauseCause) → SameWidth a b → SameWidths xs ys → SameWidths (in_front a xs) (in_front b ys)
+in_front_same : (a b : Result Literal ClauseCause) (xs ys : Result (List Literal) ClauseCause) → SameWidth a b → SameWidths xs ys
+    → SameWidths (in_front a xs) (in_front b ys)
 unfolding SameWidth SameWidths widths
 in_front_same (Ok a) (Ok b) (Ok xs) (Ok ys) p q = cc
 in_front_same (Ok a) (Ok b) (Err c) (Err d) p q = tt
@@ -49,7 +67,8 @@ tested false false c d x y e h = h
 tested true false c d x y e h = cc
 tested false true c d x y e h = cc
 
-within_same : (variables : ℕ) (head : List ℕ × List Term) (xs ys : List Literal) → widths xs ≡ widths ys → IsFound (within_slots variables head xs) (within_slots variables head ys)
+within_same : (variables : ℕ) (head : List ℕ × List Term) (xs ys : List Literal) → widths xs ≡ widths ys
+    → IsFound (within_slots variables head xs) (within_slots variables head ys)
 unfolding IsFound widths
 within_same variables head xs ys e =
     let slots = λ (n : ℕ). length head.1 + variables + n in
@@ -58,7 +77,8 @@ within_same variables head xs ys e =
     (record { name = head.0; head = head.1; variables = variables; body = xs }) (record { name = head.0; head = head.1; variables = variables; body = ys })
     (ap (λ n. nat_lt 64 (slots n)) same)
 
-clause_same : (variables : ℕ) (head : Result (List ℕ × List Term) ClauseCause) (xs ys : Result (List Literal) ClauseCause) → SameWidths xs ys → IsFound (clause_with variables head xs) (clause_with variables head ys)
+clause_same : (variables : ℕ) (head : Result (List ℕ × List Term) ClauseCause) (xs ys : Result (List Literal) ClauseCause) → SameWidths xs ys
+    → IsFound (clause_with variables head xs) (clause_with variables head ys)
 unfolding IsFound SameWidths
 clause_same variables (Err c) xs ys p = λ h. h
 clause_same variables (Ok head) (Ok xs) (Ok ys) p = within_same variables head xs ys p
@@ -75,13 +95,15 @@ module _ (m : List ℕ) (imports : List (List ℕ × ℕ × List ℕ)) where
       unless_same (cause_of_key (is_refused_key name 0) name 0) (record { name = name; args = []; target = target_of m [] name 0 })
       (record { name = name; args = []; target = target_of m imports name 0 }) refl
   literal_same (Term-F.Compound name args) =
-      unless_same (cause_of_key (is_refused_key name (length args)) name (length args)) (record { name = name; args = args; target = target_of m [] name (length args) })
+      unless_same (cause_of_key (is_refused_key name (length args)) name (length args))
+      (record { name = name; args = args; target = target_of m [] name (length args) })
       (record { name = name; args = args; target = target_of m imports name (length args) }) refl
 
   body_same : (goals : List Term) → SameWidths (body_of m [] goals) (body_of m imports goals)
   unfolding SameWidths
   body_same [] = refl
-  body_same (goal ∷ goals) = in_front_same (literal_of m [] goal) (literal_of m imports goal) (body_of m [] goals) (body_of m imports goals) (literal_same (out-Term goal)) (body_same goals)
+  body_same (goal ∷ goals) = in_front_same (literal_of m [] goal) (literal_of m imports goal) (body_of m [] goals) (body_of m imports goals)
+      (literal_same (out-Term goal)) (body_same goals)
 
   from_same : (variables : ℕ) (head : Term) (goals : List Term) → IsFound (clause_from m [] variables head goals) (clause_from m imports variables head goals)
   from_same variables head goals = clause_same variables (head_of head) (body_of m [] goals) (body_of m imports goals) (body_same goals)

@@ -23,7 +23,8 @@ there-last [] m name e =
     rw test refl
 there-last (k ∷ ms) m name e = some-by (pointwise nat_eq k.name name) k (module_in (ms ++ m ∷ []) name) (there-last ms m name e)
 
-clause-modules : (program : ProgramView) (name : List ℕ) (given : Result clause.Clause ClauseCause) → (with_clause_from program name given).modules ≡ program.modules
+clause-modules : (program : ProgramView) (name : List ℕ) (given : Result clause.Clause ClauseCause)
+    → (with_clause_from program name given).modules ≡ program.modules
 clause-modules program name (Ok clause) = refl
 clause-modules program name (Err cause) = refl
 
@@ -39,5 +40,6 @@ module _ (name : List ℕ) (imports : List (List ℕ × ℕ × List ℕ)) where
   items-modules (n ∷ items) program = items-modules items (with_item name imports program n.item) ∙ item-modules program n.item
 
   -- the module is there behind the items too
-  pub there-behind : (items : List NumberedItem) (before behind : ProgramView) → behind ≡ with_items name imports before items → IsSome (module_in before.modules name) → IsSome (module_in behind.modules name)
+  pub there-behind : (items : List NumberedItem) (before behind : ProgramView) → behind ≡ with_items name imports before items
+      → IsSome (module_in before.modules name) → IsSome (module_in behind.modules name)
   there-behind items before behind e h = subst (λ (ms : List Module). IsSome (module_in ms name)) (sym (ap (λ p. p.modules) e ∙ items-modules items before)) h

@@ -41,7 +41,8 @@ pub alike_as : (n : ℕ) (nodes : List Node) (f : Assignment → Bool) → IsFun
 alike_as n nodes f h a at other same t = h.answers other ∙ a at other same (sym (h.answers at) ∙ t)
 
 -- a diagram, by its models
-pub diagram_of : (n : ℕ) (xs : List ℕ) (nodes : List Node) → IsCanonical nodes → TrueAlike n (holds nodes) → models_of n nodes ≡ xs → IsPositive n xs → IsDiagramOf n xs nodes
+pub diagram_of : (n : ℕ) (xs : List ℕ) (nodes : List Node) → IsCanonical nodes → TrueAlike n (holds nodes) → models_of n nodes ≡ xs → IsPositive n xs
+    → IsDiagramOf n xs nodes
 diagram_of n xs nodes c a e p = record {
   diagram = record {
     canonical = c;

@@ -1,5 +1,35 @@
 -- What properties ask of assignments, and whether all models have it.
-use Rattle.std.proofs.Common.{◌≡◌, ℕ, ◌-◌, ◌^◌, ◌<◌, ◌≤◌, Bool, true, false, ◌&&◌, ◌||◌, bit_or, ◌↔◌, IsTrue, List, [], ◌∷◌, length, drop, All, ◌⊎◌, inl, inr, refl, sym, ap, subst, ◌∙◌, arith}
+use Rattle.std.proofs.Common.{
+  ◌≡◌,
+  ℕ,
+  ◌-◌,
+  ◌^◌,
+  ◌<◌,
+  ◌≤◌,
+  Bool,
+  true,
+  false,
+  ◌&&◌,
+  ◌||◌,
+  bit_or,
+  ◌↔◌,
+  IsTrue,
+  List,
+  [],
+  ◌∷◌,
+  length,
+  drop,
+  All,
+  ◌⊎◌,
+  inl,
+  inr,
+  refl,
+  sym,
+  ap,
+  subst,
+  ◌∙◌,
+  arith,
+}
 use Rattle.std.specs.List.{AllByRecursion}
 use Rattle.std.proofs.lemmas.List.Elements.{recursion_from_All}
 use Rattle.std.proofs.lemmas.List.{drop_all}
@@ -36,14 +66,16 @@ pub allowed_all_is : (ps : List Prop) (x : ℕ) → allowed_all ps (has_slot x) 
 allowed_all_is [] x = refl
 allowed_all_is (p ∷ ps) x = λ k. allowed_is p x k && allowed_all_is ps x k
 
-allowed_alike : (n : ℕ) (p : Prop) → speaks_within n p → (at other : Assignment) → ((slot : ℕ) → slot < n → at slot ≡ other slot) → allowed p at ≡ allowed p other
+allowed_alike : (n : ℕ) (p : Prop) → speaks_within n p → (at other : Assignment) → ((slot : ℕ) → slot < n → at slot ≡ other slot)
+    → allowed p at ≡ allowed p other
 allowed_alike n (property.Ground i) w at other same = let l : i - 1 < n = omega (arith, w.0, w.1) in same (i - 1) l
 allowed_alike n (property.Var i) w at other same = refl
 allowed_alike n (property.Nonvar i) w at other same = refl
 allowed_alike n (property.Int i) w at other same = let l : i - 1 < n = omega (arith, w.0, w.1) in same (i - 1) l
 allowed_alike n (property.Indep i j) w at other same = refl
 
-all_alike : (n : ℕ) (ps : List Prop) → AllByRecursion (speaks_within n) ps → (at other : Assignment) → ((slot : ℕ) → slot < n → at slot ≡ other slot) → allowed_all ps at ≡ allowed_all ps other
+all_alike : (n : ℕ) (ps : List Prop) → AllByRecursion (speaks_within n) ps → (at other : Assignment) → ((slot : ℕ) → slot < n → at slot ≡ other slot)
+    → allowed_all ps at ≡ allowed_all ps other
 all_alike n [] w at other same = refl
 all_alike n (p ∷ ps) w at other same = λ k. allowed_alike n p w.0 at other same k && all_alike n ps w.1 at other same k
 
@@ -79,7 +111,8 @@ and_last : (b : Bool) → (b && true) ≡ b
 and_last true = refl
 and_last false = refl
 
-pub all_allowed : (slots i : ℕ) (ps : List Prop) → length ps ≤ i → ((at : Assignment) → (conjunction slots at && allowed_all (drop i ps) at) ≡ allowed_all ps at)
+pub all_allowed : (slots i : ℕ) (ps : List Prop) → length ps ≤ i
+    → ((at : Assignment) → (conjunction slots at && allowed_all (drop i ps) at) ≡ allowed_all ps at)
     → (at : Assignment) → conjunction slots at ≡ allowed_all ps at
 all_allowed slots i ps l h at =
     sym (and_last (conjunction slots at)) ∙ ap (λ xs. conjunction slots at && allowed_all xs at) (sym (drop_all i ps l)) ∙ h at

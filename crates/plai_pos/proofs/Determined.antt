@@ -1,11 +1,50 @@
 -- Arguments that a clause's variables determine, through each operation on sets of assignments.
-use Rattle.std.proofs.Common.{◌≡◌, ℕ, ◌+◌, ◌*◌, ◌/◌, ◌%◌, ◌^◌, ◌<◌, Bool, true, false, nat_eq, ◌&&◌, List, filter, length, map, get_or, refl, sym, ap, subst, ◌∙◌, arith}
+use Rattle.std.proofs.Common.{
+  ◌≡◌,
+  ℕ,
+  ◌+◌,
+  ◌*◌,
+  ◌/◌,
+  ◌%◌,
+  ◌^◌,
+  ◌<◌,
+  Bool,
+  true,
+  false,
+  nat_eq,
+  ◌&&◌,
+  List,
+  filter,
+  length,
+  map,
+  get_or,
+  refl,
+  sym,
+  ap,
+  subst,
+  ◌∙◌,
+  arith,
+}
 use Rattle.std.proofs.lemmas.Bool.{eq-eqb, eqb-true, and_parts, and_from}
 use Rattle.std.proofs.lemmas.List.{get_or-map, length-map}
 use Rattle.std.proofs.lemmas.Nat.{pow-add, mod_low, shr_high, shr_below}
 use Rattle.plai_base.specs.Mask.{has_slot, all_true}
 use Rattle.plai_base.specs.Sets.{has, has_some, has_all, kept, IsSet}
-use Rattle.plai_base.proofs.Sets.{same_tests, has_kept, kept_has, kept_same, has-kept, has-filter, filter-kept, some_from, some_of, IsSet_below, IsSet-kept, IsSet-filter, same_set}
+use Rattle.plai_base.proofs.Sets.{
+  same_tests,
+  has_kept,
+  kept_has,
+  kept_same,
+  has-kept,
+  has-filter,
+  filter-kept,
+  some_from,
+  some_of,
+  IsSet_below,
+  IsSet-kept,
+  IsSet-filter,
+  same_set,
+}
 use Rattle.plai_base.proofs.Bits.{pattern_slot, pattern_lt, top_lt, top_slot}
 use Rattle.plai_terms.specs.declared.term.Term.{Term, Var}
 use Rattle.plai_domain.specs.Instances.{all_below}
@@ -25,14 +64,16 @@ use Rattle.plai_pos.proofs.Masks.{conjunction-alike}
 -- ---- the truths of terms
 
 -- a conjunction depends on the slots below the bound of its own
-pub conjunction_below : (v set : ℕ) (at other : Assignment) → IsBelow v set → ((slot : ℕ) → slot < v → at slot ≡ other slot) → conjunction set at ≡ conjunction set other
+pub conjunction_below : (v set : ℕ) (at other : Assignment) → IsBelow v set → ((slot : ℕ) → slot < v → at slot ≡ other slot)
+    → conjunction set at ≡ conjunction set other
 conjunction_below v set at other below same = conjunction-alike set at other (λ slot t. same slot (below slot t))
 
 pub slot_at : (sets : List ℕ) (y j : ℕ) → j < length sets → has_slot (terms_at sets y) j ≡ conjunction (get_or sets j 0) (has_slot y)
 slot_at sets y j l = pattern_slot (map (λ set. conjunction set (has_slot y)) sets) j ∙ get_or-map (λ set. conjunction set (has_slot y)) sets j 0 false l
 
 pub terms_lt : (sets : List ℕ) (y : ℕ) → terms_at sets y < 2 ^ length sets
-terms_lt sets y = subst (λ k. terms_at sets y < 2 ^ k) (length-map sets (λ set. conjunction set (has_slot y))) (pattern_lt (map (λ set. conjunction set (has_slot y)) sets))
+terms_lt sets y = subst (λ k. terms_at sets y < 2 ^ k) (length-map sets (λ set. conjunction set (has_slot y)))
+    (pattern_lt (map (λ set. conjunction set (has_slot y)) sets))
 
 pub top_terms : (v : ℕ) (sets : List ℕ) → AreBelow v sets → terms_at sets (all_true v) ≡ all_true (length sets)
 top_terms v sets below =
@@ -127,7 +168,8 @@ module _ (n v : ℕ) (sets ys : List ℕ) (size : length sets ≡ n) (is : IsSet
     pub call_whole : call_of n v args (determined n v sets ys) ≡ image slots ys
     call_whole =
         call_is n v args below (determined n v sets ys) (IsSet-kept (2 ^ (n + v)) test)
-        ∙ kept_same (2 ^ length args) (λ a. has_some (determined n v sets ys) (λ x. nat_eq (pattern_of args (x / 2 ^ n)) a)) (λ a. has_some ys (λ y. nat_eq (terms_at slots y) a))
+        ∙ kept_same (2 ^ length args) (λ a. has_some (determined n v sets ys) (λ x. nat_eq (pattern_of args (x / 2 ^ n)) a))
+        (λ a. has_some ys (λ y. nat_eq (terms_at slots y) a))
         (λ a l. some_whole (λ y. nat_eq (pattern_of args y) a) ∙ (λ i. has_some ys (λ y. nat_eq (pattern_is v args slots are y i) a)))
         ∙ ap (λ k. kept (2 ^ k) (λ a. has_some ys (λ y. nat_eq (terms_at slots y) a))) (sym are.size)
 
@@ -142,12 +184,14 @@ module _ (n v : ℕ) (sets ys : List ℕ) (size : length sets ≡ n) (is : IsSet
         → made ≡ filter (has (preimage v seen (given (length seen)))) ys → determined n v sets made ≡ back_of n v args (given k) (determined n v sets ys)
     answered_whole seen e given k same made h =
         ap (determined n v sets)
-        (h ∙ (λ i. filter (has (preimage v (e i) (given (length (e i))))) ys) ∙ ap (λ m. filter (has (preimage v slots (given m))) ys) (are.size ∙ sym same) ∙ by_terms)
+        (h ∙ (λ i. filter (has (preimage v (e i) (given (length (e i))))) ys)
+        ∙ ap (λ m. filter (has (preimage v slots (given m))) ys) (are.size ∙ sym same) ∙ by_terms)
         ∙ sym (back_whole (given k))
       where
         by_terms : filter (has (preimage v slots (given k))) ys ≡ filter (λ y. has (given k) (terms_at slots y)) ys
         by_terms =
-            same_set (2 ^ v) _ _ (IsSet-filter (2 ^ v) (has (preimage v slots (given k))) ys is) (IsSet-filter (2 ^ v) (λ y. has (given k) (terms_at slots y)) ys is)
+            same_set (2 ^ v) _ _ (IsSet-filter (2 ^ v) (has (preimage v slots (given k))) ys is)
+            (IsSet-filter (2 ^ v) (λ y. has (given k) (terms_at slots y)) ys is)
             (λ y l.
             has-filter (has (preimage v slots (given k))) ys y
             ∙ ap (λ b. has ys y && b) (has-kept (2 ^ v) (λ y. has (given k) (terms_at slots y)) y l)
@@ -167,7 +211,8 @@ module _ (n v : ℕ) (head : List Term) (sets call : List ℕ) (len : length hea
       and_from _ _ (sym (ap (has call) (eqb-true _ _ p.1)) ∙ sym there ∙ p.0) p.1)
     where
       there : has (preimage v sets call) (z / 2 ^ n) ≡ has call (terms_at sets (z / 2 ^ n))
-      there = has-kept (2 ^ v) (λ y. has call (terms_at sets y)) (z / 2 ^ n) (let e : n + v ≡ v + n = omega arith in shr_below z v n (subst (λ k. z < 2 ^ k) e l))
+      there = has-kept (2 ^ v) (λ y. has call (terms_at sets y)) (z / 2 ^ n)
+          (let e : n + v ≡ v + n = omega arith in shr_below z v n (subst (λ k. z < 2 ^ k) e l))
 
   pub enter_whole : enter_of n v head call ≡ determined n v sets (preimage v sets call)
   enter_whole =

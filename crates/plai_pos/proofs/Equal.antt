@@ -74,7 +74,9 @@ pub joined : (a b : Value) (nodes : List Node) → a.arity ≡ b.arity → IsFun
 joined a b nodes same h =
     let over : IsOver a.arity b.diagram = subst (λ k. IsOver k b.diagram) (sym same) b.over in
     diagram_of a.arity _ nodes h.canonical
-    (alike_as a.arity nodes _ h (or_right_alike a.arity a.diagram b.diagram (alike_of a.arity a.diagram a.canonical a.over) (alike_of a.arity b.diagram b.canonical over)))
+    (alike_as a.arity nodes _ h (or_right_alike a.arity a.diagram b.diagram (alike_of a.arity a.diagram a.canonical a.over)
+    (alike_of a.arity b.diagram b.canonical over)))
     (kept_same (2 ^ a.arity) (is_model nodes) (λ m. has (models_of a.arity a.diagram) m || has (models_of b.arity b.diagram) m)
-    (λ m l. h.answers _ ∙ (λ i. sym (has-kept (2 ^ a.arity) (is_model a.diagram) m l) i || sym (has-kept (2 ^ b.arity) (is_model b.diagram) m (subst (λ k. m < 2 ^ k) same l)) i)))
+    (λ m l. h.answers _ ∙ (λ i. sym (has-kept (2 ^ a.arity) (is_model a.diagram) m l) i
+    || sym (has-kept (2 ^ b.arity) (is_model b.diagram) m (subst (λ k. m < 2 ^ k) same l)) i)))
     (value_join a.arity _ _ (value_positive a) (subst (λ k. IsPositive k (models_of b.arity b.diagram)) (sym same) (value_positive b)))

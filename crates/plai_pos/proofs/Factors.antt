@@ -11,7 +11,8 @@ use Rattle.plai_bdd.specs.Nodes.{holds}
 use Rattle.plai_factors.specs.Product.{together}
 use Rattle.plai_pos.specs.Values.{models_in, models_of, IsPositiveBelow}
 
-module _ (v : ℕ) (fs : List (List Node)) (f : List Node) (longer : List (List Node)) (at_longer : (at : Assignment) → together longer at ≡ (together fs at && holds f at)) where
+module _ (v : ℕ) (fs : List (List Node)) (f : List Node) (longer : List (List Node))
+    (at_longer : (at : Assignment) → together longer at ≡ (together fs at && holds f at)) where
   pub positive_push : IsPositiveBelow v (together fs) → IsPositiveBelow v (holds f) → IsPositiveBelow v (together longer)
   positive_push p q = record {
     over = λ at other same. at_longer at ∙ (λ i. p.over at other same i && q.over at other same i) ∙ sym (at_longer other);

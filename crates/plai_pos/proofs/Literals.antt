@@ -1,5 +1,33 @@
 -- What is known of terms from what is known of their variables, and the other way round, as diagrams.
-use Rattle.std.proofs.Common.{◌≡◌, ℕ, ◌+◌, ◌-◌, ◌^◌, ◌<◌, ◌≤◌, Bool, true, nat_eq, ◌&&◌, ◌↔◌, IsTrue, List, [], ◌∷◌, ◌++◌, length, get_or, ◌⊎◌, inl, inr, sym, ap, subst, ◌∙◌, arith}
+use Rattle.std.proofs.Common.{
+  ◌≡◌,
+  ℕ,
+  ◌+◌,
+  ◌-◌,
+  ◌^◌,
+  ◌<◌,
+  ◌≤◌,
+  Bool,
+  true,
+  nat_eq,
+  ◌&&◌,
+  ◌↔◌,
+  IsTrue,
+  List,
+  [],
+  ◌∷◌,
+  ◌++◌,
+  length,
+  get_or,
+  ◌⊎◌,
+  inl,
+  inr,
+  sym,
+  ap,
+  subst,
+  ◌∙◌,
+  arith,
+}
 use Rattle.std.specs.Bool.{beq}
 use Rattle.std.proofs.lemmas.Bool.{eq-eqb, eqb-true, and_parts, and_from}
 use Rattle.plai_base.specs.Mask.{has_slot, all_true}
@@ -27,14 +55,19 @@ abbrev pub Projected : ℕ → (Assignment → Type 0) → Assignment → Type 0
 Projected first P at = (other : Assignment) × (((slot : ℕ) → first ≤ slot → other slot ≡ at slot) × P other)
 
 -- projection of a range of slots
-pub range_projects : (mask first : ℕ) (f : Assignment → Bool) → first ≤ 64 → IsRange mask 0 first → (at : Assignment) → Somewhere mask f at ↔ Projected first (λ other. IsTrue (f other)) at
-range_projects mask first f room range at = (λ (there, (d, t)). (there, ((λ slot l. down there slot l (d slot)), t)), λ (there, (d, t)). (there, ((λ slot. up there d slot (below_or_from slot first)), t)))
+pub range_projects : (mask first : ℕ) (f : Assignment → Bool) → first ≤ 64 → IsRange mask 0 first → (at : Assignment)
+    → Somewhere mask f at ↔ Projected first (λ other. IsTrue (f other)) at
+range_projects mask first f room range at = (
+  λ (there, (d, t)). (there, ((λ slot l. down there slot l (d slot)), t)),
+  λ (there, (d, t)). (there, ((λ slot. up there d slot (below_or_from slot first)), t)),
+)
   where
     down : (there : Assignment) (slot : ℕ) → first ≤ slot → (there slot ≡ at slot) ⊎ ((slot < 64) × IsTrue (has_slot mask slot)) → there slot ≡ at slot
     down there slot l (inl e) = e
     down there slot l (inr p) = absurd (omega (arith, ((range slot).0 p.1).1, l))
 
-    up : (there : Assignment) → ((slot : ℕ) → first ≤ slot → there slot ≡ at slot) → (slot : ℕ) → (slot < first) ⊎ (first ≤ slot) → (there slot ≡ at slot) ⊎ ((slot < 64) × IsTrue (has_slot mask slot))
+    up : (there : Assignment) → ((slot : ℕ) → first ≤ slot → there slot ≡ at slot) → (slot : ℕ) → (slot < first) ⊎ (first ≤ slot)
+        → (there slot ≡ at slot) ⊎ ((slot < 64) × IsTrue (has_slot mask slot))
     up there d slot (inl l) = inr (omega arith, (range slot).1 (omega arith, l))
     up there d slot (inr l) = inl (d slot l)
 
@@ -42,13 +75,15 @@ range_projects mask first f room range at = (λ (there, (d, t)). (there, ((λ sl
 abbrev pub Between : ℕ → ℕ → (Assignment → Type 0) → Assignment → Type 0
 Between first end P at = (other : Assignment) × (((slot : ℕ) → (slot < first) ⊎ (end ≤ slot) → other slot ≡ at slot) × P other)
 
-range_between : (mask first end : ℕ) (f : Assignment → Bool) → end ≤ 64 → IsRange mask first end → (at : Assignment) → Somewhere mask f at ↔ Between first end (λ other. IsTrue (f other)) at
+range_between : (mask first end : ℕ) (f : Assignment → Bool) → end ≤ 64 → IsRange mask first end → (at : Assignment)
+    → Somewhere mask f at ↔ Between first end (λ other. IsTrue (f other)) at
 range_between mask first end f room range at = (
   λ (there, (d, t)). (there, ((λ slot out. down there slot out (d slot)), t)),
   λ (there, (d, t)). (there, ((λ slot. up there d slot (where_is slot first end)), t)),
 )
   where
-    down : (there : Assignment) (slot : ℕ) → (slot < first) ⊎ (end ≤ slot) → (there slot ≡ at slot) ⊎ ((slot < 64) × IsTrue (has_slot mask slot)) → there slot ≡ at slot
+    down : (there : Assignment) (slot : ℕ) → (slot < first) ⊎ (end ≤ slot) → (there slot ≡ at slot) ⊎ ((slot < 64) × IsTrue (has_slot mask slot))
+        → there slot ≡ at slot
     down there slot out (inl e) = e
     down there slot (inl l) (inr p) = absurd (omega (arith, ((range slot).0 p.1).0, l))
     down there slot (inr l) (inr p) = absurd (omega (arith, ((range slot).0 p.1).1, l))
@@ -56,7 +91,8 @@ range_between mask first end f room range at = (
     where_is : (slot first end : ℕ) → ((first ≤ slot) × (slot < end)) ⊎ ((slot < first) ⊎ (end ≤ slot))
     where_is slot first end = grind arith
 
-    up : (there : Assignment) → ((slot : ℕ) → (slot < first) ⊎ (end ≤ slot) → there slot ≡ at slot) → (slot : ℕ) → ((first ≤ slot) × (slot < end)) ⊎ ((slot < first) ⊎ (end ≤ slot))
+    up : (there : Assignment) → ((slot : ℕ) → (slot < first) ⊎ (end ≤ slot) → there slot ≡ at slot) → (slot : ℕ)
+        → ((first ≤ slot) × (slot < end)) ⊎ ((slot < first) ⊎ (end ≤ slot))
         → (there slot ≡ at slot) ⊎ ((slot < 64) × IsTrue (has_slot mask slot))
     up there d slot (inl within) = inr (omega (arith, within.1), (range slot).1 within)
     up there d slot (inr out) = inl (d slot out)
@@ -108,7 +144,8 @@ joining_all v sets given i all e h at = (
 )
 
 module _ (v : ℕ) (sets : List ℕ) (below : AreBelow v sets) (room : v + length sets ≤ 64) where
-  truth_alike : (j : ℕ) (at other : Assignment) → ((slot : ℕ) → slot < v → at slot ≡ other slot) → conjunction (get_or sets j 0) at ≡ conjunction (get_or sets j 0) other
+  truth_alike : (j : ℕ) (at other : Assignment) → ((slot : ℕ) → slot < v → at slot ≡ other slot)
+      → conjunction (get_or sets j 0) at ≡ conjunction (get_or sets j 0) other
   truth_alike j at other same = conjunction_below v (get_or sets j 0) at other (below j) same
 
   -- ---- from variables to terms
@@ -150,7 +187,8 @@ module _ (v : ℕ) (sets : List ℕ) (below : AreBelow v sets) (room : v + lengt
         )
 
     -- the variables go
-    pub projected_is : (mask : ℕ) (f : Assignment → Bool) (projected : List Node) → IsRange mask 0 v → ((at : Assignment) → IsTrue (answer projected at) ↔ Somewhere mask f at)
+    pub projected_is : (mask : ℕ) (f : Assignment → Bool) (projected : List Node) → IsRange mask 0 v
+        → ((at : Assignment) → IsTrue (answer projected at) ↔ Somewhere mask f at)
         → ((at : Assignment) → IsTrue (f at) ↔ Joined at) → (at : Assignment) → IsTrue (answer projected at) ↔ Projected v Joined at
     projected_is mask f projected range meaning says at =
         let r = range_projects mask v f (omega (arith, room)) range at in (
@@ -164,9 +202,11 @@ module _ (v : ℕ) (sets : List ℕ) (below : AreBelow v sets) (room : v + lengt
       made_alike at other same t =
           lowered.answers other ∙ (meaning (λ slot. other (slot - v))).1 (by ((meaning (λ slot. at (slot - v))).0 (sym (lowered.answers at) ∙ t)))
         where
-          high : (there : Assignment) → ((slot : ℕ) → v ≤ slot → there slot ≡ at (slot - v)) → (slot : ℕ) → v ≤ slot → (slot < v + length sets) ⊎ (v + length sets ≤ slot)
+          high : (there : Assignment) → ((slot : ℕ) → v ≤ slot → there slot ≡ at (slot - v)) → (slot : ℕ) → v ≤ slot
+              → (slot < v + length sets) ⊎ (v + length sets ≤ slot)
               → spliced (v + length sets) there (λ slot. other (slot - v)) slot ≡ other (slot - v)
-          high there q slot le (inl l) = spliced_low (v + length sets) there (λ slot. other (slot - v)) slot l ∙ q slot le ∙ same (slot - v) (omega (arith, le, l))
+          high there q slot le (inl l) = spliced_low (v + length sets) there (λ slot. other (slot - v)) slot l ∙ q slot le
+              ∙ same (slot - v) (omega (arith, le, l))
           high there q slot le (inr l) = spliced_high (v + length sets) there (λ slot. other (slot - v)) slot l
 
           by : Projected v Joined (λ slot. at (slot - v)) → Projected v Joined (λ slot. other (slot - v))
@@ -174,7 +214,8 @@ module _ (v : ℕ) (sets : List ℕ) (below : AreBelow v sets) (room : v + lengt
             spliced (v + length sets) there (λ slot. other (slot - v)),
             (
               (λ slot le. high there q slot le (below_or_from slot (v + length sets))),
-              joined_alike there (spliced (v + length sets) there (λ slot. other (slot - v))) (λ slot l. sym (spliced_low (v + length sets) there (λ slot. other (slot - v)) slot l)) p,
+              joined_alike there (spliced (v + length sets) there (λ slot. other (slot - v)))
+                  (λ slot l. sym (spliced_low (v + length sets) there (λ slot. other (slot - v)) slot l)) p,
             ),
           )
 
@@ -199,7 +240,8 @@ module _ (v : ℕ) (sets : List ℕ) (below : AreBelow v sets) (room : v + lengt
           let q = has_kept (2 ^ v) (λ y. given (has_slot y)) x m in
           let e : terms_at sets x ≡ a = eqb-true _ _ k in
           lowered.answers (has_slot a)
-          ∙ (meaning (λ slot. has_slot a (slot - v))).1 (beside x a, ((λ slot le. beside_high x a slot le), subst (λ b. Joined (beside x b)) e (beside_joined x q.1)))
+          ∙ (meaning (λ slot. has_slot a (slot - v))).1
+          (beside x a, ((λ slot le. beside_high x a slot le), subst (λ b. Joined (beside x b)) e (beside_joined x q.1)))
 
       image_top : has_some (models_in v given) (λ y. nat_eq (terms_at sets y) (all_true (length sets))) ≡ true
       image_top =
@@ -216,7 +258,8 @@ module _ (v : ℕ) (sets : List ℕ) (below : AreBelow v sets) (room : v + lengt
 
   -- ---- from terms to variables
 
-  module _ (given : List Node) (d : IsDiagram (length sets) given) (raised : Assignment → Bool) (raises : (at : Assignment) → raised at ≡ answer given (λ slot. at (slot + v))) where
+  module _ (given : List Node) (d : IsDiagram (length sets) given) (raised : Assignment → Bool)
+      (raises : (at : Assignment) → raised at ≡ answer given (λ slot. at (slot + v))) where
     abbrev Raised : Assignment → Type 0
     Raised = JoinedAt v sets raised
 
@@ -230,7 +273,8 @@ module _ (v : ℕ) (sets : List ℕ) (below : AreBelow v sets) (room : v + lengt
     )
 
     -- the terms' slots go
-    pub replaced_is : (mask : ℕ) (f : Assignment → Bool) (made : List Node) → IsRange mask v (v + length sets) → ((at : Assignment) → IsTrue (answer made at) ↔ Somewhere mask f at)
+    pub replaced_is : (mask : ℕ) (f : Assignment → Bool) (made : List Node) → IsRange mask v (v + length sets)
+        → ((at : Assignment) → IsTrue (answer made at) ↔ Somewhere mask f at)
         → ((at : Assignment) → IsTrue (f at) ↔ Raised at) → (at : Assignment) → IsTrue (answer made at) ↔ Between v (v + length sets) Raised at
     replaced_is mask f made range meaning says at =
         let r = range_between mask v (v + length sets) f room range at in (
@@ -238,7 +282,8 @@ module _ (v : ℕ) (sets : List ℕ) (below : AreBelow v sets) (room : v + lengt
           λ (other, (q, h)). (meaning at).1 (r.1 (other, (q, (says other).1 h))),
         )
 
-    module _ (made : List Node) (canonical : IsCanonical made) (meaning : (at : Assignment) → IsTrue (answer made at) ↔ Between v (v + length sets) Raised at) where
+    module _ (made : List Node) (canonical : IsCanonical made)
+        (meaning : (at : Assignment) → IsTrue (answer made at) ↔ Between v (v + length sets) Raised at) where
       -- the variables' and the last slots of one assignment, and the terms' slots of another
       moved : Assignment → Assignment → Assignment
       moved at there = spliced v at (spliced (v + length sets) there at)
@@ -266,7 +311,10 @@ module _ (v : ℕ) (sets : List ℕ) (below : AreBelow v sets) (room : v + lengt
       preimage_alike at other same t = by ((meaning at).0 t)
         where
           by : Between v (v + length sets) Raised at → IsTrue (answer made other)
-          by (there, (q, p)) = (meaning other).1 (moved other there, ((λ slot out. moved_out other there slot out), moved_raised other there (λ slot l. q slot (inl l) ∙ same slot l) p))
+          by (there, (q, p)) = (meaning other).1 (
+            moved other there,
+            ((λ slot out. moved_out other there slot out), moved_raised other there (λ slot l. q slot (inl l) ∙ same slot l) p),
+          )
 
       preimage_in : (y : ℕ) → IsTrue (is_model made y) → has (models_of (length sets) given) (terms_at sets y) ≡ true
       preimage_in y t = by ((meaning (has_slot y)).0 t)
@@ -318,5 +366,6 @@ module _ (v : ℕ) (sets : List ℕ) (below : AreBelow v sets) (room : v + lengt
       pub preimage_is : IsDiagramOf v (preimage v sets (models_of (length sets) given)) made
       preimage_is =
           diagram_of v (preimage v sets (models_of (length sets) given)) made canonical preimage_alike
-          (kept_same (2 ^ v) (is_model made) (λ y. has (models_of (length sets) given) (terms_at sets y)) (λ y l. same_tests _ _ (preimage_in y) (preimage_out y)))
+          (kept_same (2 ^ v) (is_model made) (λ y. has (models_of (length sets) given) (terms_at sets y))
+          (λ y l. same_tests _ _ (preimage_in y) (preimage_out y)))
           (value_kept v (λ y. has (models_of (length sets) given) (terms_at sets y)) preimage_top)

@@ -21,7 +21,12 @@ slot_or mask slot k h = by (same_or_not k slot)
   where
     by : (k ≡ slot) ⊎ (k ≢ slot) → IsTrue (has_slot mask k) ⊎ (k ≡ slot)
     by (inl same) = inr same
-    by (inr other) = inl (eq-eqb _ 1 (omega (arith, eqb-true (bit_at (bit_or mask (mask_of slot)) k) 1 h, bit_at_or mask (2 ^ slot) k, bit_at-pow_other slot k other)))
+    by (inr other) = inl (eq-eqb _ 1 (omega (
+      arith,
+      eqb-true (bit_at (bit_or mask (mask_of slot)) k) 1 h,
+      bit_at_or mask (2 ^ slot) k,
+      bit_at-pow_other slot k other,
+    )))
 
 pub slot_there : (mask slot k : ℕ) → IsTrue (has_slot mask k) → IsTrue (has_slot (bit_or mask (mask_of slot)) k)
 slot_there mask slot k h = eq-eqb _ 1 (omega (arith, eqb-true (bit_at mask k) 1 h, bit_at_or mask (2 ^ slot) k, bit_at-lt (2 ^ slot) k))
@@ -46,7 +51,8 @@ conjunction-insert mask slot at l =
     let old = (all_hold-Decides mask 64 at).0 r.0 in
     (all_hold-Decides (bit_or mask (mask_of slot)) 64 at).1 (λ k less has. by k less old r.1 (slot_or mask slot k has)))
   where
-    by : (k : ℕ) → k < 64 → ((k : ℕ) → k < 64 → IsTrue (has_slot mask k) → IsTrue (at k)) → at slot ≡ true → IsTrue (has_slot mask k) ⊎ (k ≡ slot) → IsTrue (at k)
+    by : (k : ℕ) → k < 64 → ((k : ℕ) → k < 64 → IsTrue (has_slot mask k) → IsTrue (at k)) → at slot ≡ true → IsTrue (has_slot mask k) ⊎ (k ≡ slot)
+        → IsTrue (at k)
     by k less old here (inl has) = old k less has
     by k less old here (inr e) = ap at e ∙ here
 
@@ -88,7 +94,8 @@ pub own_slot : (slot : ℕ) → IsTrue (has_slot (mask_of slot) slot)
 own_slot slot = eq-eqb _ 1 (bit_at-pow_same slot)
 
 -- a conjunction depends on its slots alone
-pub conjunction-alike : (mask : ℕ) (at other : Assignment) → ((slot : ℕ) → IsTrue (has_slot mask slot) → at slot ≡ other slot) → conjunction mask at ≡ conjunction mask other
+pub conjunction-alike : (mask : ℕ) (at other : Assignment) → ((slot : ℕ) → IsTrue (has_slot mask slot) → at slot ≡ other slot)
+    → conjunction mask at ≡ conjunction mask other
 conjunction-alike mask at other same =
     same_tests (conjunction mask at) (conjunction mask other)
     (λ h. (all_hold-Decides mask 64 other).1 (λ k l has. sym (same k has) ∙ (all_hold-Decides mask 64 at).0 h k l has))

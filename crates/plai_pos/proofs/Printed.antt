@@ -1,5 +1,36 @@
 -- The text of a diagram is that of its models.
-use Rattle.std.proofs.Common.{◌≡◌, ℕ, zero, suc, ◌+◌, ◌-◌, ◌*◌, ◌/◌, ◌%◌, ◌^◌, ◌<◌, ◌≤◌, Bool, true, false, cond, nat_eq, List, [], ◌∷◌, ◌++◌, ◌⊎◌, inl, inr, refl, sym, ap, subst, ◌∙◌, arith}
+use Rattle.std.proofs.Common.{
+  ◌≡◌,
+  ℕ,
+  zero,
+  suc,
+  ◌+◌,
+  ◌-◌,
+  ◌*◌,
+  ◌/◌,
+  ◌%◌,
+  ◌^◌,
+  ◌<◌,
+  ◌≤◌,
+  Bool,
+  true,
+  false,
+  cond,
+  nat_eq,
+  List,
+  [],
+  ◌∷◌,
+  ◌++◌,
+  ◌⊎◌,
+  inl,
+  inr,
+  refl,
+  sym,
+  ap,
+  subst,
+  ◌∙◌,
+  arith,
+}
 use Rattle.std.specs.Fmt.{decimal}
 use Rattle.std.proofs.Math.Nat.{pow-suc}
 use Rattle.std.proofs.lemmas.Bool.{eq-eqb}
@@ -78,7 +109,8 @@ half_odd : (m : ℕ) → (2 * m + 1) / 2 ≡ m
 half_odd m = omega arith
 
 -- a tree that doesn't ask for the slot
-module _ (k i n : ℕ) (f : ℕ → Bool) (t : Tree) (r : IsReduced (i + 1) t) (a : AllSlots (λ slot. slot < n) t) (h : (m : ℕ) → m < 2 ^ suc k → f m ≡ value t (seen i m)) where
+module _ (k i n : ℕ) (f : ℕ → Bool) (t : Tree) (r : IsReduced (i + 1) t) (a : AllSlots (λ slot. slot < n) t)
+    (h : (m : ℕ) → m < 2 ^ suc k → f m ≡ value t (seen i m)) where
   later : (m : ℕ) → m < 2 ^ k → f (2 * m) ≡ value t (seen (suc i) m)
   later m l = h (2 * m) (even_lt k m l) ∙ value_half i n (2 * m) m t (half_even m) r a
 
@@ -88,16 +120,19 @@ module _ (k i n : ℕ) (f : ℕ → Bool) (t : Tree) (r : IsReduced (i + 1) t) (
       let (m, l, differs) = depends_of (2 ^ k) f e in
       absurd (differs (h (2 * m + 1) (odd_lt k m l) ∙ value_half i n (2 * m + 1) m t (half_odd m) r a ∙ sym (later m l)))
 
-  skipped : (whole : Shape) → whole ≡ cond (depends (2 ^ k) f) (Split (suc i) (shape k (suc (suc i)) (λ m. f (2 * m + 1))) (shape k (suc (suc i)) (λ m. f (2 * m)))) (shape k (suc (suc i)) (λ m. f (2 * m)))
+  skipped : (whole : Shape) → whole ≡ cond (depends (2 ^ k) f)
+      (Split (suc i) (shape k (suc (suc i)) (λ m. f (2 * m + 1))) (shape k (suc (suc i)) (λ m. f (2 * m)))) (shape k (suc (suc i)) (λ m. f (2 * m)))
       → shape_text (shape k (suc (suc i)) (λ m. f (2 * m))) ≡ tree_text t → shape_text whole ≡ tree_text t
   skipped whole e ih =
       let no = independent (depends (2 ^ k) f) refl in
       ap shape_text
-      (e ∙ ap (λ b. cond b (Split (suc i) (shape k (suc (suc i)) (λ m. f (2 * m + 1))) (shape k (suc (suc i)) (λ m. f (2 * m)))) (shape k (suc (suc i)) (λ m. f (2 * m)))) no)
+      (e ∙ ap (λ b. cond b (Split (suc i) (shape k (suc (suc i)) (λ m. f (2 * m + 1))) (shape k (suc (suc i)) (λ m. f (2 * m))))
+      (shape k (suc (suc i)) (λ m. f (2 * m)))) no)
       ∙ ih
 
 -- a tree that asks for the slot first
-module _ (k i n s : ℕ) (f : ℕ → Bool) (low high : Tree) (whole : i + suc k ≡ n) (is : s ≡ i) (r : IsReduced i (Fork s low high)) (a : AllSlots (λ slot. slot < n) (Fork s low high))
+module _ (k i n s : ℕ) (f : ℕ → Bool) (low high : Tree) (whole : i + suc k ≡ n) (is : s ≡ i) (r : IsReduced i (Fork s low high))
+    (a : AllSlots (λ slot. slot < n) (Fork s low high))
     (h : (m : ℕ) → m < 2 ^ suc k → f m ≡ value (Fork s low high) (seen i m)) where
   none : s - i ≡ 0
   none = omega arith
@@ -133,14 +168,16 @@ module _ (k i n s : ℕ) (f : ℕ → Bool) (low high : Tree) (whole : i + suc k
       value_mask i k n low later_whole low_reduced a.1 at ∙ sym (evens m l) ∙ sym (not_depends (2 ^ k) f e m l) ∙ odds m l
       ∙ sym (value_mask i k n high later_whole high_reduced a.2 at))))
 
-  forked : (all : Shape) → all ≡ cond (depends (2 ^ k) f) (Split (suc i) (shape k (suc (suc i)) (λ m. f (2 * m + 1))) (shape k (suc (suc i)) (λ m. f (2 * m)))) (shape k (suc (suc i)) (λ m. f (2 * m)))
+  forked : (all : Shape) → all ≡ cond (depends (2 ^ k) f)
+      (Split (suc i) (shape k (suc (suc i)) (λ m. f (2 * m + 1))) (shape k (suc (suc i)) (λ m. f (2 * m)))) (shape k (suc (suc i)) (λ m. f (2 * m)))
       → shape_text (shape k (suc (suc i)) (λ m. f (2 * m + 1))) ≡ tree_text high → shape_text (shape k (suc (suc i)) (λ m. f (2 * m))) ≡ tree_text low
       → shape_text all ≡ tree_text (Fork s low high)
   forked all e p q =
       let yes_it = dependent (depends (2 ^ k) f) refl in
       let number : suc i ≡ s + 1 = omega arith in
       ap shape_text
-      (e ∙ ap (λ b. cond b (Split (suc i) (shape k (suc (suc i)) (λ m. f (2 * m + 1))) (shape k (suc (suc i)) (λ m. f (2 * m)))) (shape k (suc (suc i)) (λ m. f (2 * m)))) yes_it)
+      (e ∙ ap (λ b. cond b (Split (suc i) (shape k (suc (suc i)) (λ m. f (2 * m + 1))) (shape k (suc (suc i)) (λ m. f (2 * m))))
+      (shape k (suc (suc i)) (λ m. f (2 * m)))) yes_it)
       ∙ (λ x. 40 ∷ (decimal (number x) ++ 32 ∷ (p x ++ 32 ∷ (q x ++ 41 ∷ []))))
 
 first_or_later : (s i : ℕ) → i ≤ s → (s ≡ i) ⊎ (i < s)

@@ -1,5 +1,44 @@
 -- What the actions make of diagrams.
-use Rattle.std.proofs.Common.{◌≡◌, ℕ, ◌+◌, ◌-◌, ◌⊎◌, inl, inr, ◌/◌, ◌%◌, ◌^◌, ◌<◌, ◌≤◌, Bool, true, false, true≢false, not, nat_eq, cond, ◌&&◌, ◌↔◌, IsTrue, List, [], ◌∷◌, ◌++◌, filter, length, get_or, Option, Some, None, is_some, refl, sym, ap, ◌∙◌, arith}
+use Rattle.std.proofs.Common.{
+  ◌≡◌,
+  ℕ,
+  ◌+◌,
+  ◌-◌,
+  ◌⊎◌,
+  inl,
+  inr,
+  ◌/◌,
+  ◌%◌,
+  ◌^◌,
+  ◌<◌,
+  ◌≤◌,
+  Bool,
+  true,
+  false,
+  true≢false,
+  not,
+  nat_eq,
+  cond,
+  ◌&&◌,
+  ◌↔◌,
+  IsTrue,
+  List,
+  [],
+  ◌∷◌,
+  ◌++◌,
+  filter,
+  length,
+  get_or,
+  Option,
+  Some,
+  None,
+  is_some,
+  refl,
+  sym,
+  ap,
+  ◌∙◌,
+  arith,
+}
 use Rattle.std.specs.Bool.{beq}
 use Rattle.std.proofs.lemmas.Bool.{and_parts, and_from}
 use Rattle.std.proofs.lemmas.Nat.Bits.{bit_at_above, bit_at-zero}
@@ -72,7 +111,8 @@ maybe_variable n v xs t r e h =
     ∙ sym (some_unless (has_all xs (λ x. variable_in n x v)) xs)
     ∙ ap (λ o. is_some (if_variable n xs o)) (sym (ap (fold-Term (Option ℕ) variable_step) e ∙ variable_of-Var v))
 
-pub not_is : (slot never made : List Node) (u : ℕ) → IsFunction never (λ _. false) → IsFunction slot (λ at. at u) → IsFunction made (λ at. beq (answer slot at) (answer never at))
+pub not_is : (slot never made : List Node) (u : ℕ) → IsFunction never (λ _. false) → IsFunction slot (λ at. at u)
+    → IsFunction made (λ at. beq (answer slot at) (answer never at))
     → IsFunction made (λ at. not (at u))
 not_is slot never made u f g h = IsFunction-as (λ at. (λ i. beq (g.answers at i) (f.answers at i)) ∙ beq_false (at u)) h
   where
@@ -81,8 +121,10 @@ not_is slot never made u f g h = IsFunction-as (λ at. (λ i. beq (g.answers at 
     beq_false false = refl
 
 -- some assignment makes the variable false
-module _ (v u mask : ℕ) (given longer : List (List Node)) (f some : List Node) (r : Bool) (room : v ≤ 64) (d : IsPositiveBelow v (together given)) (pushed : longer ≡ given ++ f ∷ [])
-    (says : IsFunction f (λ at. not (at u))) (range : IsRange mask 0 v) (meaning : (at : Assignment) → IsTrue (answer some at) ↔ Somewhere mask (together longer) at)
+module _ (v u mask : ℕ) (given longer : List (List Node)) (f some : List Node) (r : Bool) (room : v ≤ 64) (d : IsPositiveBelow v (together given))
+    (pushed : longer ≡ given ++ f ∷ [])
+    (says : IsFunction f (λ at. not (at u))) (range : IsRange mask 0 v)
+    (meaning : (at : Assignment) → IsTrue (answer some at) ↔ Somewhere mask (together longer) at)
     (asked : r ≡ is_model some 0) (less : u < v) where
   longer_is : (at : Assignment) → together longer at ≡ (together given at && not (at u))
   longer_is at = ap (λ fs. together fs at) pushed ∙ together-push given f at ∙ ap (λ b. together given at && b) (says.answers at)
@@ -114,18 +156,21 @@ module _ (v u mask : ℕ) (given longer : List (List Node)) (f some : List Node)
       by y h t false e =
           let found : IsTrue (together longer (has_slot y)) = longer_is (has_slot y) ∙ and_from _ _ t (ap not e) in
           let y_below = (has_kept (2 ^ v) (λ y. together given (has_slot y)) y h).0 in
-          absurd (true≢false (sym (asked ∙ (meaning (has_slot 0)).1 ((range_projects mask v (together longer) room range (has_slot 0)).1 (has_slot y, ((λ slot le. high y slot y_below le), found)))) ∙ none))
+          absurd (true≢false (sym (asked ∙ (meaning (has_slot 0)).1
+          ((range_projects mask v (together longer) room range (has_slot 0)).1 (has_slot y, ((λ slot le. high y slot y_below le), found)))) ∙ none))
 
   pub may_be : r ≡ not (has_all (models_in v (together given)) (λ y. has_slot y u))
   may_be = by r refl (has_all (models_in v (together given)) (λ y. has_slot y u)) refl
     where
-      by : (b : Bool) → r ≡ b → (c : Bool) → has_all (models_in v (together given)) (λ y. has_slot y u) ≡ c → r ≡ not (has_all (models_in v (together given)) (λ y. has_slot y u))
+      by : (b : Bool) → r ≡ b → (c : Bool) → has_all (models_in v (together given)) (λ y. has_slot y u) ≡ c
+          → r ≡ not (has_all (models_in v (together given)) (λ y. has_slot y u))
       by true e true f = absurd (never e f)
       by true e false f = e ∙ sym (ap not f)
       by false e c f = e ∙ sym (ap not (always e))
 
 -- a variable's slot is true in all assignments of the state where it is in all of the variables'
-pub always_true : (n v u : ℕ) (sets ys : List ℕ) → length sets ≡ n → IsSet (2 ^ v) ys → has_all ys (λ y. has_slot y u) ≡ has_all (determined n v sets ys) (λ x. variable_in n x u)
+pub always_true : (n v u : ℕ) (sets ys : List ℕ) → length sets ≡ n → IsSet (2 ^ v) ys
+    → has_all ys (λ y. has_slot y u) ≡ has_all (determined n v sets ys) (λ x. variable_in n x u)
 always_true n v u sets ys size is = sym (all_whole n v sets ys size is (λ y. has_slot y u)) ∙ (λ i. has_all (determined n v sets ys) (λ x. slot_high x n u i))
 
 unless_some : (b : Bool) (xs : List ℕ) → true ≡ is_some (cond b None (Some xs)) → cond b None (Some xs) ≡ Some xs

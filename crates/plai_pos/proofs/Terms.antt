@@ -1,5 +1,37 @@
 -- Terms and their slots, assignment by assignment.
-use Rattle.std.proofs.Common.{◌≡◌, ℕ, zero, suc, ◌+◌, ◌<◌, ◌≤◌, Bool, true, false, true≢false, nat_lt, ◌&&◌, bit_or, IsTrue, List, [], ◌∷◌, ◌++◌, length, get_or, ◌⊎◌, inl, inr, refl, sym, ap, subst, ◌∙◌, arith, rules}
+use Rattle.std.proofs.Common.{
+  ◌≡◌,
+  ℕ,
+  zero,
+  suc,
+  ◌+◌,
+  ◌<◌,
+  ◌≤◌,
+  Bool,
+  true,
+  false,
+  true≢false,
+  nat_lt,
+  ◌&&◌,
+  bit_or,
+  IsTrue,
+  List,
+  [],
+  ◌∷◌,
+  ◌++◌,
+  length,
+  get_or,
+  ◌⊎◌,
+  inl,
+  inr,
+  refl,
+  sym,
+  ap,
+  subst,
+  ◌∙◌,
+  arith,
+  rules,
+}
 use Rattle.std.specs.Bool.{beq}
 use Rattle.std.proofs.Math.ListN.{get_or-append}
 use Rattle.std.proofs.Math.Seq.{get_or-append_seam}
@@ -42,7 +74,8 @@ get_or_past (x ∷ xs) (suc j) d l = get_or_past xs j d (omega (arith, l))
 pub term_at : (args : List Term) (j : ℕ) (t : Term) → t ≡ get_or args j t → j < length args → t ≡ get_or args j (Var 0)
 term_at args j t e l = e ∙ get_or_same args j t (Var 0) l
 
-pub term_below : (limit : ℕ) (args : List Term) (j : ℕ) (t : Term) → all_below limit args ≡ true → t ≡ get_or args j t → j < length args → has_variables_below limit t ≡ true
+pub term_below : (limit : ℕ) (args : List Term) (j : ℕ) (t : Term) → all_below limit args ≡ true → t ≡ get_or args j t → j < length args
+    → has_variables_below limit t ≡ true
 term_below limit args j t h e l = ap (has_variables_below limit) (term_at args j t e l) ∙ below_at limit args j h l
 
 -- ---- the slots of a term
@@ -54,7 +87,8 @@ var_added slots result v u t e h room is at =
     ap (λ m. conjunction m at) is ∙ conjunction-insert slots u at less
     ∙ ap (λ b. conjunction slots at && b) (sym (ap (holds at) e ∙ holds-Var at u))
 
-pub var_within : (slots result v u : ℕ) (t : Term) → t ≡ Var u → has_variables_below v t ≡ true → result ≡ bit_or slots (mask_of u) → IsBelow v slots → IsBelow v result
+pub var_within : (slots result v u : ℕ) (t : Term) → t ≡ Var u → has_variables_below v t ≡ true → result ≡ bit_or slots (mask_of u) → IsBelow v slots
+    → IsBelow v result
 var_within slots result v u t e h is below slot has = by (slot_or slots u slot (subst (λ m. IsTrue (has_slot m slot)) is has))
   where
     by : IsTrue (has_slot slots slot) ⊎ (slot ≡ u) → slot < v
@@ -122,8 +156,10 @@ slots_more v i terms t slots new set at_i within below is e h = record {
 
     by : (j : ℕ) (at : Assignment) → (j < i) ⊎ (j ≡ i) → conjunction (get_or (slots ++ set ∷ []) j 0) at ≡ holds at (get_or terms j (Var 0))
     by j at (inl l) = ap (λ m. conjunction m at) (first j l) ∙ h.truths j l at
-    by j at (inr q) = ap (λ m. conjunction m at) (seam j q) ∙ is at ∙ ap (holds at) (term_at terms i t at_i within) ∙ sym (ap (λ k. holds at (get_or terms k (Var 0))) q)
+    by j at (inr q) = ap (λ m. conjunction m at) (seam j q) ∙ is at ∙ ap (holds at) (term_at terms i t at_i within)
+        ∙ sym (ap (λ k. holds at (get_or terms k (Var 0))) q)
 
 -- what is read of a list of sets
-pub set_at : (seen sets : List ℕ) (j set : ℕ) (at : Assignment) → seen ≡ sets → set ≡ get_or seen j set → j < length sets → conjunction set at ≡ conjunction (get_or sets j 0) at
+pub set_at : (seen sets : List ℕ) (j set : ℕ) (at : Assignment) → seen ≡ sets → set ≡ get_or seen j set → j < length sets
+    → conjunction set at ≡ conjunction (get_or sets j 0) at
 set_at seen sets j set at e is l = ap (λ m. conjunction m at) (is ∙ ap (λ xs. get_or xs j set) e ∙ get_or_same sets j set 0 l)

@@ -1,5 +1,32 @@
 -- What an action leaves describes each instance after a substitution that it allows.
-use Rattle.std.proofs.Common.{◌≡◌, ℕ, zero, suc, ◌-◌, ◌<◌, true, false, cond, List, [], ◌∷◌, ◌++◌, length, map, get_or, Option, Some, None, refl, sym, ap, ◌∙◌, arith, rules, subst}
+use Rattle.std.proofs.Common.{
+  ◌≡◌,
+  ℕ,
+  zero,
+  suc,
+  ◌-◌,
+  ◌<◌,
+  true,
+  false,
+  cond,
+  List,
+  [],
+  ◌∷◌,
+  ◌++◌,
+  length,
+  map,
+  get_or,
+  Option,
+  Some,
+  None,
+  refl,
+  sym,
+  ap,
+  ◌∙◌,
+  arith,
+  rules,
+  subst,
+}
 use Rattle.std.proofs.lemmas.Bool.{and_parts, false≢true, false_from_ne_true}
 use Rattle.std.proofs.lemmas.List.{get_or-map}
 use Rattle.plai_base.specs.Sets.{has_all}
@@ -42,7 +69,8 @@ told s = induction (Told s)
     (λ v h. (v, variable_of-Var v, refl))
     (λ n h. absurd (not_var (apply_of s (Int n)) (search (rules, the_lemmas)) h))
     (λ a h. absurd (not_var (apply_of s (Atom a)) (search (rules, the_lemmas)) h))
-    (λ name args k h. absurd (not_var (apply_of s (Compound name args)) (ap variable_of (apply_of-Compound s name args) ∙ variable_of-Compound name (map (apply_of s) args)) h))
+    (λ name args k h. absurd (not_var (apply_of s (Compound name args))
+    (ap variable_of (apply_of-Compound s name args) ∙ variable_of-Compound name (map (apply_of s) args)) h))
 
 pub variable_at_is : (args : List Term) (j : ℕ) → j < length args → variable_at args j ≡ variable_of (get_or args j (Var 0))
 variable_at_is [] j l = absurd (omega (arith, l))

@@ -1,5 +1,32 @@
 -- The operations of groundness describe the instances that functions from variables to terms make.
-use Rattle.std.proofs.Common.{◌≡◌, inl, inr, ℕ, zero, suc, ◌+◌, ◌-◌, ◌<◌, ◌≤◌, true, false, List, [], ◌∷◌, length, map, get_or, Some, refl, sym, ap, ◌∙◌, arith, rules, subst}
+use Rattle.std.proofs.Common.{
+  ◌≡◌,
+  inl,
+  inr,
+  ℕ,
+  zero,
+  suc,
+  ◌+◌,
+  ◌-◌,
+  ◌<◌,
+  ◌≤◌,
+  true,
+  false,
+  List,
+  [],
+  ◌∷◌,
+  length,
+  map,
+  get_or,
+  Some,
+  refl,
+  sym,
+  ap,
+  ◌∙◌,
+  arith,
+  rules,
+  subst,
+}
 use Rattle.std.specs.List.{list_all, AllByRecursion}
 use Rattle.std.proofs.lemmas.Bool.{ltb-true, and_parts}
 use Rattle.std.proofs.lemmas.List.{length-map}
@@ -23,7 +50,17 @@ use Rattle.plai_domain.specs.Soundness.{numbers, Speaks, IsFrom, TellsTruly, Act
 use Rattle.plai_pos_laws.specs.Groundness.{Describes, DescribesInstance, groundness}
 use Rattle.plai_pos_laws.proofs.Holds.{below-Var, below-Compound}
 use Rattle.plai_pos_laws.proofs.Sound.{bound_numbered}
-use Rattle.plai_pos_laws.proofs.Soundness.{larger_describes, describe_describes, entailed_holds, excluded_fails, enter_describes, call_describes, back_describes, refine_describes, exit_describes}
+use Rattle.plai_pos_laws.proofs.Soundness.{
+  larger_describes,
+  describe_describes,
+  entailed_holds,
+  excluded_fails,
+  enter_describes,
+  call_describes,
+  back_describes,
+  refine_describes,
+  exit_describes,
+}
 
 -- ---- variables below a number
 
@@ -85,7 +122,8 @@ module _ (f : ℕ → Term) (n : ℕ) where
   pub firsts_do : (ts : List Term) → AreBelow n ts → map (instance_of firsts) ts ≡ map (under f) ts
   firsts_do ts below = under_same_all (bound_to (numbered 0 firsts)) f ts (λ v o. bound_first v (below v o))
 
-occurs_first : (w : ℕ) (i : ℕ → Term) (first n : ℕ) → occurs_in w (map i (numbers first n)) ≡ true → (v : ℕ) × (first ≤ v) × (v < first + n) × (occurs w (i v) ≡ true)
+occurs_first : (w : ℕ) (i : ℕ → Term) (first n : ℕ) → occurs_in w (map i (numbers first n)) ≡ true
+    → (v : ℕ) × (first ≤ v) × (v < first + n) × (occurs w (i v) ≡ true)
 occurs_first w i first zero o = cc
 occurs_first w i first (suc n) o =
     elim (or_cases (occurs w (i first)) (occurs_in w (map i (numbers (suc first) n))) o) [
@@ -217,7 +255,8 @@ module _ (head : List Term) (variables : ℕ) (st : StateView) (i : ℕ → Term
     acts_refine action w k =
         let there : acts_within (length passed) action = subst (λ m. acts_within m action) (sym (length-map args (under i))) w in
         let c = doing n passed f (instance_below args (are_below variables args a.below)) action there k in
-        let (after, e, m) = refine_describes st hs ts d args within c.bindings action w (subst (λ l. allows_at l c.bindings action) (sym passed_is) c.allowed) in
+        let (after, e, m) = refine_describes st hs ts d args within c.bindings action w
+        (subst (λ l. allows_at l c.bindings action) (sym passed_is) c.allowed) in
         (after, e, behind c.bindings c.does after m)
 
 groundness_acts : ActsTruly groundness

@@ -5,7 +5,19 @@ use Rattle.std.proofs.lemmas.List.{get_or-map}
 use Rattle.std.proofs.lemmas.Nat.{shr_high}
 use Rattle.plai_base.specs.Mask.{has_slot, pattern}
 use Rattle.plai_base.specs.Sets.{has, has_some, kept, IsSet}
-use Rattle.plai_base.proofs.Sets.{same_tests, same_set, is_kept, IsSet-kept, IsSet-filter, IsSet_below, filter_within, filter_passes, has_filter, some_from, some_of}
+use Rattle.plai_base.proofs.Sets.{
+  same_tests,
+  same_set,
+  is_kept,
+  IsSet-kept,
+  IsSet-filter,
+  IsSet_below,
+  filter_within,
+  filter_passes,
+  has_filter,
+  some_from,
+  some_of,
+}
 use Rattle.plai_base.proofs.Bits.{slot_high, pattern_slot}
 use Rattle.plai_terms.specs.declared.term.Term.{Term, Var}
 use Rattle.plai_domain.specs.Instances.{all_below}
@@ -29,7 +41,8 @@ module _ (n v : ℕ) (args : List Term) (below : all_below v args ≡ true) (xs 
       some_from xs (λ x. nat_eq (pattern_of args (x / 2 ^ n)) a) x h (eq-eqb _ _ (sym (pattern_high n x args) ∙ k)))
       (λ e.
       let (x, h, k) = some_of xs (λ x. nat_eq (pattern_of args (x / 2 ^ n)) a) e in
-      subst (λ z. has (call_of n v args xs) z ≡ true) (pattern_high n x args ∙ eqb-true _ _ k) (call_in n v args below xs x h (IsSet_below (2 ^ (n + v)) xs x is h))))
+      subst (λ z. has (call_of n v args xs) z ≡ true) (pattern_high n x args ∙ eqb-true _ _ k)
+      (call_in n v args below xs x h (IsSet_below (2 ^ (n + v)) xs x is h))))
 
   pub acted_is : (test : ℕ → Bool) → acted n v args test xs ≡ filter (λ x. test (extended n v args x)) xs
   acted_is test =
@@ -38,7 +51,8 @@ module _ (n v : ℕ) (args : List Term) (below : all_below v args ≡ true) (xs 
       (IsSet-filter (2 ^ (n + v)) (λ x. test (extended n v args x)) xs is)
       (λ x l. same_tests _ _
       (λ e. let r = acted_out n v args below test xs x e in has_filter (λ x. test (extended n v args x)) xs x r.0 r.1)
-      (λ e. acted_in n v args below test xs x (filter_within (λ x. test (extended n v args x)) xs x e) l (filter_passes (λ x. test (extended n v args x)) xs x e)))
+      (λ e. acted_in n v args below test xs x (filter_within (λ x. test (extended n v args x)) xs x e) l
+      (filter_passes (λ x. test (extended n v args x)) xs x e)))
 
   filter_same : (p q : ℕ → Bool) → ((x : ℕ) → x < 2 ^ (n + v) → p x ≡ q x) → filter p xs ≡ filter q xs
   filter_same p q h =

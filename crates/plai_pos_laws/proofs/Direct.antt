@@ -1,5 +1,33 @@
 -- The members of what each operation gives, without the slots of a literal.
-use Rattle.std.proofs.Common.{◌≡◌, ℕ, zero, suc, ◌+◌, ◌*◌, ◌/◌, ◌%◌, ◌^◌, ◌≤◌, ◌<◌, Bool, true, false, nat_eq, List, [], ◌∷◌, filter, length, get_or, refl, sym, ap, ◌∙◌, arith, subst}
+use Rattle.std.proofs.Common.{
+  ◌≡◌,
+  ℕ,
+  zero,
+  suc,
+  ◌+◌,
+  ◌*◌,
+  ◌/◌,
+  ◌%◌,
+  ◌^◌,
+  ◌≤◌,
+  ◌<◌,
+  Bool,
+  true,
+  false,
+  nat_eq,
+  List,
+  [],
+  ◌∷◌,
+  filter,
+  length,
+  get_or,
+  refl,
+  sym,
+  ap,
+  ◌∙◌,
+  arith,
+  subst,
+}
 use Rattle.std.proofs.lemmas.List.{length-map}
 use Rattle.std.proofs.Math.Nat.{mul-le-mul_right}
 use Rattle.std.specs.Int.{bit_at}
@@ -14,7 +42,21 @@ use Rattle.plai_base.proofs.Bits.{slot_low, slot_high, pattern_lt, pattern_slot}
 use Rattle.plai_terms.specs.declared.term.Term.{Term}
 use Rattle.plai_terms.specs.Term.{has_variables_below}
 use Rattle.plai_domain.specs.Instances.{all_below}
-use Rattle.plai_pos_laws.specs.Assignments.{agree, holds, variable_in, unify, unify_all, widened, first_slots, later_slots, with_literal, enter_of, call_of, back_of, acted}
+use Rattle.plai_pos_laws.specs.Assignments.{
+  agree,
+  holds,
+  variable_in,
+  unify,
+  unify_all,
+  widened,
+  first_slots,
+  later_slots,
+  with_literal,
+  enter_of,
+  call_of,
+  back_of,
+  acted,
+}
 use Rattle.plai_pos_laws.specs.Truths.{truths, agrees}
 use Rattle.plai_pos_laws.proofs.Holds.{holds_same}
 
@@ -81,14 +123,16 @@ low_agrees bs y e = agrees_from 0 bs y (λ j l.
 
 -- ---- unify
 
-pub unify_all_out : (n slot : ℕ) (terms : List Term) (xs : List ℕ) (y : ℕ) → has (unify_all n slot terms xs) y ≡ true → (has xs y ≡ true) × (agrees slot (truths n y terms) y ≡ true)
+pub unify_all_out : (n slot : ℕ) (terms : List Term) (xs : List ℕ) (y : ℕ) → has (unify_all n slot terms xs) y ≡ true
+    → (has xs y ≡ true) × (agrees slot (truths n y terms) y ≡ true)
 unify_all_out n slot [] xs y e = (e, refl)
 unify_all_out n slot (t ∷ ts) xs y e =
     let test : ℕ → Bool = λ x. agree (has_slot x slot) (holds (variable_in n x) t) in
     let r = unify_all_out n (suc slot) ts (unify n slot t xs) y e in
     (filter_within test xs y r.0, and_from _ _ (filter_passes test xs y r.0) r.1)
 
-pub unify_all_in : (n slot : ℕ) (terms : List Term) (xs : List ℕ) (y : ℕ) → has xs y ≡ true → agrees slot (truths n y terms) y ≡ true → has (unify_all n slot terms xs) y ≡ true
+pub unify_all_in : (n slot : ℕ) (terms : List Term) (xs : List ℕ) (y : ℕ) → has xs y ≡ true → agrees slot (truths n y terms) y ≡ true
+    → has (unify_all n slot terms xs) y ≡ true
 unify_all_in n slot [] xs y h e = h
 unify_all_in n slot (t ∷ ts) xs y h e =
     let test : ℕ → Bool = λ x. agree (has_slot x slot) (holds (variable_in n x) t) in
@@ -189,10 +233,12 @@ module _ (n v : ℕ) (args : List Term) where
 
     -- ---- the answer, and the actions that filter
 
-    pub acted_in : (test : ℕ → Bool) (xs : List ℕ) (x : ℕ) → has xs x ≡ true → x < 2 ^ (n + v) → test (extended x) ≡ true → has (acted n v args test xs) x ≡ true
+    pub acted_in : (test : ℕ → Bool) (xs : List ℕ) (x : ℕ) → has xs x ≡ true → x < 2 ^ (n + v) → test (extended x) ≡ true
+        → has (acted n v args test xs) x ≡ true
     acted_in test xs x h l t =
         subst (λ z. has (acted n v args test xs) z ≡ true) (extended_low x l)
-        (first_in (n + v) (filter test (with_literal n v args xs)) (extended x) (has_filter test (with_literal n v args xs) (extended x) (literal_in xs x h l) t))
+        (first_in (n + v) (filter test (with_literal n v args xs)) (extended x)
+        (has_filter test (with_literal n v args xs) (extended x) (literal_in xs x h l) t))
 
     pub acted_out : (test : ℕ → Bool) (xs : List ℕ) (x : ℕ) → has (acted n v args test xs) x ≡ true → (has xs x ≡ true) × (test (extended x) ≡ true)
     acted_out test xs x e =
@@ -201,17 +247,20 @@ module _ (n v : ℕ) (args : List Term) where
         let whole : y ≡ extended x = sym (shr_split y (n + v)) ∙ pair_parts _ _ _ _ (2 ^ (n + v)) (r.1 ∙ ap (λ z. pattern (truths n z args)) k) k in
         (subst (λ z. has xs z ≡ true) k r.0, subst (λ z. test z ≡ true) whole (filter_passes test (with_literal n v args xs) y h))
 
-    pub back_in : (answer xs : List ℕ) (x : ℕ) → has xs x ≡ true → x < 2 ^ (n + v) → has answer (pattern (truths n x args)) ≡ true → has (back_of n v args answer xs) x ≡ true
+    pub back_in : (answer xs : List ℕ) (x : ℕ) → has xs x ≡ true → x < 2 ^ (n + v) → has answer (pattern (truths n x args)) ≡ true
+        → has (back_of n v args answer xs) x ≡ true
     back_in answer xs x h l t = acted_in (λ y. has answer (y / 2 ^ (n + v))) xs x h l (ap (has answer) (extended_high x l) ∙ t)
 
-    pub back_out : (answer xs : List ℕ) (x : ℕ) → x < 2 ^ (n + v) → has (back_of n v args answer xs) x ≡ true → (has xs x ≡ true) × (has answer (pattern (truths n x args)) ≡ true)
+    pub back_out : (answer xs : List ℕ) (x : ℕ) → x < 2 ^ (n + v) → has (back_of n v args answer xs) x ≡ true
+        → (has xs x ≡ true) × (has answer (pattern (truths n x args)) ≡ true)
     back_out answer xs x l e =
         let r = acted_out (λ y. has answer (y / 2 ^ (n + v))) xs x e in
         (r.0, ap (has answer) (sym (extended_high x l)) ∙ r.1)
 
 -- ---- enter
 
-pub enter_in : (n v : ℕ) (head : List Term) (xs : List ℕ) (z : ℕ) → length head ≡ n → z < 2 ^ (n + v) → has xs (z % 2 ^ n) ≡ true → z % 2 ^ n ≡ pattern (truths n z head) → has (enter_of n v head xs) z ≡ true
+pub enter_in : (n v : ℕ) (head : List Term) (xs : List ℕ) (z : ℕ) → length head ≡ n → z < 2 ^ (n + v) → has xs (z % 2 ^ n) ≡ true
+    → z % 2 ^ n ≡ pattern (truths n z head) → has (enter_of n v head xs) z ≡ true
 enter_in n v head xs z len l h e =
     let size : length (truths n z head) ≡ n = length-map head (holds (variable_in n z)) ∙ len in
     unify_all_in n 0 head (widened n v xs) z

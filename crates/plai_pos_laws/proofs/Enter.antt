@@ -1,5 +1,37 @@
 -- What `enter` gives, variable assignment by variable assignment.
-use Rattle.std.proofs.Common.{◌≡◌, ℕ, zero, suc, ◌+◌, ◌*◌, ◌/◌, ◌%◌, ◌^◌, ◌<◌, Bool, true, false, ◌&&◌, nat_eq, nat_lt, cond, List, [], ◌∷◌, ◌++◌, length, map, inl, inr, refl, sym, ap, ◌∙◌, arith, subst}
+use Rattle.std.proofs.Common.{
+  ◌≡◌,
+  ℕ,
+  zero,
+  suc,
+  ◌+◌,
+  ◌*◌,
+  ◌/◌,
+  ◌%◌,
+  ◌^◌,
+  ◌<◌,
+  Bool,
+  true,
+  false,
+  ◌&&◌,
+  nat_eq,
+  nat_lt,
+  cond,
+  List,
+  [],
+  ◌∷◌,
+  ◌++◌,
+  length,
+  map,
+  inl,
+  inr,
+  refl,
+  sym,
+  ap,
+  ◌∙◌,
+  arith,
+  subst,
+}
 use Rattle.std.proofs.lemmas.Bool.{eq-eqb, eqb-true, ne_eqb, and_parts, and_from, and_right, cases_order, lt-ltb, le-ltb}
 use Rattle.std.proofs.lemmas.List.{length-map, append-nil}
 use Rattle.std.proofs.lemmas.Nat.{mod_low, shr_high}
@@ -91,18 +123,21 @@ module _ (n : ℕ) (head : List Term) (xs : List ℕ) (len : length head ≡ n) 
   fits : nat_lt (pattern_of head y) (2 ^ n) ≡ true
   fits = lt-ltb _ _ (subst (λ k. pattern_of head y < 2 ^ k) len (pattern_of_lt head y))
 
-  pub enter_next : kept ((y + 1) * 2 ^ n) (enters n head xs) ≡ kept (y * 2 ^ n) (enters n head xs) ++ cond (has xs (pattern_of head y)) ((y * 2 ^ n + pattern_of head y) ∷ []) []
+  pub enter_next : kept ((y + 1) * 2 ^ n) (enters n head xs)
+      ≡ kept (y * 2 ^ n) (enters n head xs) ++ cond (has xs (pattern_of head y)) ((y * 2 ^ n + pattern_of head y) ∷ []) []
   enter_next =
       let e : (y + 1) * 2 ^ n ≡ y * 2 ^ n + 2 ^ n = omega arith in
       ap (λ k. kept k (enters n head xs)) e
       ∙ block (y * 2 ^ n) (2 ^ n) (pattern_of head y) (has xs (pattern_of head y)) (enters n head xs) at_block
-      ∙ ap (λ b. kept (y * 2 ^ n) (enters n head xs) ++ cond b ((y * 2 ^ n + pattern_of head y) ∷ []) []) (ap (λ b. has xs (pattern_of head y) && b) fits ∙ and_true (has xs (pattern_of head y)))
+      ∙ ap (λ b. kept (y * 2 ^ n) (enters n head xs) ++ cond b ((y * 2 ^ n + pattern_of head y) ∷ []) [])
+      (ap (λ b. has xs (pattern_of head y) && b) fits ∙ and_true (has xs (pattern_of head y)))
     where
       and_true : (b : Bool) → (b && true) ≡ b
       and_true true = refl
       and_true false = refl
 
-  pub enter_with : has xs (pattern_of head y) ≡ true → kept ((y + 1) * 2 ^ n) (enters n head xs) ≡ kept (y * 2 ^ n) (enters n head xs) ++ (y * 2 ^ n + pattern_of head y) ∷ []
+  pub enter_with : has xs (pattern_of head y) ≡ true
+      → kept ((y + 1) * 2 ^ n) (enters n head xs) ≡ kept (y * 2 ^ n) (enters n head xs) ++ (y * 2 ^ n + pattern_of head y) ∷ []
   enter_with e = enter_next ∙ ap (λ b. kept (y * 2 ^ n) (enters n head xs) ++ cond b ((y * 2 ^ n + pattern_of head y) ∷ []) []) e
 
   pub enter_without : has xs (pattern_of head y) ≡ false → kept ((y + 1) * 2 ^ n) (enters n head xs) ≡ kept (y * 2 ^ n) (enters n head xs)

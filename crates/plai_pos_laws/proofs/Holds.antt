@@ -18,14 +18,16 @@ holds-Compound truth name args = search (rules, the_lemmas)
 pub below-Var : (limit v : ℕ) → has_variables_below limit (Var v) ≡ nat_lt v limit
 below-Var limit v = search (rules, the_lemmas)
 
-pub below-Compound : (limit : ℕ) (name : List ℕ) (args : List Term) → has_variables_below limit (Compound name args) ≡ list_all (λ b. b) (map (has_variables_below limit) args)
+pub below-Compound : (limit : ℕ) (name : List ℕ) (args : List Term)
+    → has_variables_below limit (Compound name args) ≡ list_all (λ b. b) (map (has_variables_below limit) args)
 below-Compound limit name args = search (rules, the_lemmas)
 
 module _ (limit : ℕ) (f g : ℕ → Bool) (same : (v : ℕ) → v < limit → f v ≡ g v) where
   abbrev IsSame : Term → Type 0
   IsSame t = has_variables_below limit t ≡ true → holds f t ≡ holds g t
 
-  all_same : (args : List Term) → AllByRecursion IsSame args → list_all (λ b. b) (map (has_variables_below limit) args) ≡ true → map (holds f) args ≡ map (holds g) args
+  all_same : (args : List Term) → AllByRecursion IsSame args → list_all (λ b. b) (map (has_variables_below limit) args) ≡ true
+      → map (holds f) args ≡ map (holds g) args
   all_same [] h e = refl
   all_same (a ∷ args) h e =
       let t = and_parts (has_variables_below limit a) (list_all (λ b. b) (map (has_variables_below limit) args)) e in

@@ -10,7 +10,18 @@ use Rattle.plai_domain.specs.Plain.{StateView, UpTo}
 use Rattle.plai_domain.specs.Instances.{all_below, speaks_within, acts_within}
 use Rattle.plai_pos_laws.specs.Assignments.{IsPositive, LeqModels, refine_of, join_of, rank_of}
 use Rattle.plai_pos_laws.specs.Groundness.{masks_of, arity_of, Leq, Below, state_with, state_from, groundness}
-use Rattle.plai_pos_laws.proofs.Order.{LeqModels-trans, LeqModels-antisym, LeqModels-refl, join_first, join_second, join_least, enter_order, call_order, back_order, exit_order}
+use Rattle.plai_pos_laws.proofs.Order.{
+  LeqModels-trans,
+  LeqModels-antisym,
+  LeqModels-refl,
+  join_first,
+  join_second,
+  join_least,
+  enter_order,
+  call_order,
+  back_order,
+  exit_order,
+}
 use Rattle.plai_pos_laws.proofs.Properties.{value_describe}
 use Rattle.plai_pos_laws.proofs.Refine.{refine_order}
 use Rattle.plai_pos_laws.proofs.Rank.{rank_falls}
@@ -37,7 +48,8 @@ right h = record { first_is = h.second_is; second_is = h.second_is; order = LeqM
 pub arity_is : {n : ℕ} (a : Abs) → a ≡ Pos n (masks_of a) → arity_of a ≡ n
 arity_is a e = ap arity_of e
 
-above_join : {n : ℕ} (a b c : Abs) → a ≡ Pos n (masks_of a) → c ≡ Pos n (masks_of c) → LeqModels n (masks_of c) (join_of n (masks_of a) (masks_of b)) → Leq n c (groundness.join a b)
+above_join : {n : ℕ} (a b c : Abs) → a ≡ Pos n (masks_of a) → c ≡ Pos n (masks_of c) → LeqModels n (masks_of c) (join_of n (masks_of a) (masks_of b))
+    → Leq n c (groundness.join a b)
 above_join {n} a b c e f h = record {
   first_is = f;
   second_is = ap (λ k. Pos k (join_of (arity_of a) (masks_of a) (masks_of b))) (arity_is a e);

@@ -8,7 +8,22 @@ use Rattle.plai_base.proofs.Bits.{top_div}
 use Rattle.plai_terms.specs.declared.term.Term.{Term}
 use Rattle.plai_domain.specs.Instances.{all_below}
 use Rattle.plai_pos_laws.specs.Assignments.{IsPositive, LeqModels, widened, with_literal, enter_of, call_of, back_of, exit_of, join_of, acted}
-use Rattle.plai_pos_laws.proofs.Parts.{IsWithin-refl, IsWithin-filter, IsWithin-widened, IsWithin-first_slots, IsWithin-later_slots, IsWithin-unify_all, IsWithin-with_literal, value_kept, value_filter, value_widened, value_first_slots, value_later_slots, value_unify_all, value_with_literal}
+use Rattle.plai_pos_laws.proofs.Parts.{
+  IsWithin-refl,
+  IsWithin-filter,
+  IsWithin-widened,
+  IsWithin-first_slots,
+  IsWithin-later_slots,
+  IsWithin-unify_all,
+  IsWithin-with_literal,
+  value_kept,
+  value_filter,
+  value_widened,
+  value_first_slots,
+  value_later_slots,
+  value_unify_all,
+  value_with_literal,
+}
 
 -- ---- the order
 
@@ -52,7 +67,8 @@ join_least {n} {xs} {ys} {zs} h k = record {
 
 -- ---- the operations
 
-pub value_enter : (n v : ℕ) (head : List Term) (xs : List ℕ) → length head ≤ n → all_below v head ≡ true → IsPositive n xs → IsPositive (n + v) (enter_of n v head xs)
+pub value_enter : (n v : ℕ) (head : List Term) (xs : List ℕ) → length head ≤ n → all_below v head ≡ true → IsPositive n xs
+    → IsPositive (n + v) (enter_of n v head xs)
 value_enter n v head xs le below x =
     value_unify_all (n + v) n v 0 head (widened n v xs) (value_widened n v xs x) (omega arith) (omega arith) below
 

@@ -1,5 +1,30 @@
 -- Each part of an operation is monotone, and gives sets that have the all-true assignment.
-use Rattle.std.proofs.Common.{◌≡◌, ℕ, suc, ◌+◌, ◌/◌, ◌%◌, ◌^◌, ◌≤◌, ◌<◌, Bool, true, nat_eq, List, [], ◌∷◌, filter, length, inl, inr, refl, ap, ◌∙◌, arith, subst}
+use Rattle.std.proofs.Common.{
+  ◌≡◌,
+  ℕ,
+  suc,
+  ◌+◌,
+  ◌/◌,
+  ◌%◌,
+  ◌^◌,
+  ◌≤◌,
+  ◌<◌,
+  Bool,
+  true,
+  nat_eq,
+  List,
+  [],
+  ◌∷◌,
+  filter,
+  length,
+  inl,
+  inr,
+  refl,
+  ap,
+  ◌∙◌,
+  arith,
+  subst,
+}
 use Rattle.std.proofs.lemmas.Bool.{eq-eqb, eqb-true, and_parts, and_from, or_cases, or_left, or_right, false≢true}
 use Rattle.plai_base.specs.Mask.{has_slot, all_true}
 use Rattle.plai_base.specs.Sets.{has, has_some, has_all, kept, IsWithin}
@@ -41,10 +66,12 @@ pub IsWithin-widened : (n k : ℕ) (xs ys : List ℕ) → IsWithin xs ys → IsW
 IsWithin-widened n k xs ys w = IsWithin-kept (2 ^ (n + k)) (λ x. has xs (x % 2 ^ n)) (λ x. has ys (x % 2 ^ n)) (λ m e. w (m % 2 ^ n) e)
 
 pub IsWithin-first_slots : (n : ℕ) (xs ys : List ℕ) → IsWithin xs ys → IsWithin (first_slots n xs) (first_slots n ys)
-IsWithin-first_slots n xs ys w = IsWithin-kept (2 ^ n) (λ a. has_some xs (λ x. nat_eq (x % 2 ^ n) a)) (λ a. has_some ys (λ x. nat_eq (x % 2 ^ n) a)) (λ m e. some_more xs ys (λ x. nat_eq (x % 2 ^ n) m) w e)
+IsWithin-first_slots n xs ys w = IsWithin-kept (2 ^ n) (λ a. has_some xs (λ x. nat_eq (x % 2 ^ n) a)) (λ a. has_some ys (λ x. nat_eq (x % 2 ^ n) a))
+    (λ m e. some_more xs ys (λ x. nat_eq (x % 2 ^ n) m) w e)
 
 pub IsWithin-later_slots : (n k : ℕ) (xs ys : List ℕ) → IsWithin xs ys → IsWithin (later_slots n k xs) (later_slots n k ys)
-IsWithin-later_slots n k xs ys w = IsWithin-kept (2 ^ k) (λ a. has_some xs (λ x. nat_eq (x / 2 ^ n) a)) (λ a. has_some ys (λ x. nat_eq (x / 2 ^ n) a)) (λ m e. some_more xs ys (λ x. nat_eq (x / 2 ^ n) m) w e)
+IsWithin-later_slots n k xs ys w = IsWithin-kept (2 ^ k) (λ a. has_some xs (λ x. nat_eq (x / 2 ^ n) a)) (λ a. has_some ys (λ x. nat_eq (x / 2 ^ n) a))
+    (λ m e. some_more xs ys (λ x. nat_eq (x / 2 ^ n) m) w e)
 
 pub IsWithin-unify_all : (n slot : ℕ) (terms : List Term) (xs ys : List ℕ) → IsWithin xs ys → IsWithin (unify_all n slot terms xs) (unify_all n slot terms ys)
 IsWithin-unify_all n slot [] xs ys w = w
@@ -97,7 +124,8 @@ value_unify_all b n v slot (t ∷ ts) xs x le room below =
     (agree_true (has_slot (all_true b) slot) (holds (variable_in n (all_true b)) t) (top_slot b slot in_range) (top_holds b n v t room r.0)))
     rest room r.1
 
-pub value_with_literal : (n v : ℕ) (args : List Term) (xs : List ℕ) → IsPositive (n + v) xs → all_below v args ≡ true → IsPositive (n + v + length args) (with_literal n v args xs)
+pub value_with_literal : (n v : ℕ) (args : List Term) (xs : List ℕ) → IsPositive (n + v) xs → all_below v args ≡ true
+    → IsPositive (n + v + length args) (with_literal n v args xs)
 value_with_literal n v args xs x below =
     value_unify_all (n + v + length args) n v (n + v) args (widened (n + v) (length args) xs)
     (value_widened (n + v) (length args) xs x) (omega arith) (omega arith) below

@@ -84,7 +84,8 @@ module _ (terms : List Term) where
   allowed (property.Int i) w h s = stays_true i w (int_ground (argument terms i) h) s
   allowed (property.Indep i j) w h s = refl
 
-  all_allowed : (pre : List Prop) → AllByRecursion (speaks_within (length terms)) pre → AllByRecursion (has_property terms) pre → (s : List (ℕ × Term)) → allows_all pre (ground_in s terms) ≡ true
+  all_allowed : (pre : List Prop) → AllByRecursion (speaks_within (length terms)) pre → AllByRecursion (has_property terms) pre → (s : List (ℕ × Term))
+      → allows_all pre (ground_in s terms) ≡ true
   all_allowed [] w h s = refl
   all_allowed (p ∷ pre) w h s = and_from _ _ (allowed p w.0 h.0 s) (all_allowed pre w.1 h.1 s)
 
@@ -101,7 +102,8 @@ module _ (terms : List Term) where
       let within : i - 1 < length terms = omega (arith, w.0, w.1) in
       slot_of_ground [] terms (i - 1) within ∙ ap is_ground (apply_of-none (argument terms i))
 
-  all_ground : (xs : List ℕ) (i : ℕ) → (1 ≤ i) × (i ≤ length terms) → describes xs terms → has_all xs (λ x. argument_in x i) ≡ true → is_ground (argument terms i) ≡ true
+  all_ground : (xs : List ℕ) (i : ℕ) → (1 ≤ i) × (i ≤ length terms) → describes xs terms → has_all xs (λ x. argument_in x i) ≡ true
+      → is_ground (argument terms i) ≡ true
   all_ground xs i w d e = sym (at_itself i w) ∙ all_of xs (λ x. argument_in x i) (ground_in [] terms) e (d [])
 
   pub entails_sound : (xs : List ℕ) (p : Prop) → speaks_within (length terms) p → describes xs terms → entails_of xs p ≡ true → has_property terms p
@@ -110,7 +112,8 @@ module _ (terms : List Term) where
   entails_sound xs (property.Nonvar i) w d e = ground_no_var (argument terms i) (all_ground xs i w d e)
   entails_sound xs (property.Int i) w d e = absurd (false≢true e)
   entails_sound xs (property.Indep i j) w d e = λ v p q.
-      elim (or_cases (argument_in (ground_in [] terms) i) (argument_in (ground_in [] terms) j) (all_of xs (λ x. argument_in x i || argument_in x j) (ground_in [] terms) e (d []))) [
+      elim (or_cases (argument_in (ground_in [] terms) i) (argument_in (ground_in [] terms) j)
+      (all_of xs (λ x. argument_in x i || argument_in x j) (ground_in [] terms) e (d []))) [
         | inl h ↦ absurd (false≢true (sym (ground_occurs v (argument terms i) (sym (at_itself i (w.0, w.1)) ∙ h)) ∙ p))
         | inr h ↦ absurd (false≢true (sym (ground_occurs v (argument terms j) (sym (at_itself j (w.2, w.3)) ∙ h)) ∙ q))
       ]

@@ -1,5 +1,33 @@
 -- The rank falls with each strict growth.
-use Rattle.std.proofs.Common.{◌≡◌, ◌≢◌, ℕ, zero, suc, ◌+◌, ◌^◌, ◌≤◌, ◌<◌, Bool, true, false, cond, List, [], ◌∷◌, length, ◌⊎◌, inl, inr, refl, sym, ap, ◌∙◌, arith, subst, length-append}
+use Rattle.std.proofs.Common.{
+  ◌≡◌,
+  ◌≢◌,
+  ℕ,
+  zero,
+  suc,
+  ◌+◌,
+  ◌^◌,
+  ◌≤◌,
+  ◌<◌,
+  Bool,
+  true,
+  false,
+  cond,
+  List,
+  [],
+  ◌∷◌,
+  length,
+  ◌⊎◌,
+  inl,
+  inr,
+  refl,
+  sym,
+  ap,
+  ◌∙◌,
+  arith,
+  subst,
+  length-append,
+}
 use Rattle.std.proofs.lemmas.Bool.{false≢true, cases_eq}
 use Rattle.plai_base.specs.Sets.{has, kept}
 use Rattle.plai_base.proofs.Sets.{kept_same}
@@ -34,7 +62,8 @@ up_to t u b k e m l = elim (cases_eq m b) [
 abbrev Grows : ℕ → (ℕ → Bool) → (ℕ → Bool) → Type 0
 Grows b t u = ((m : ℕ) → m < b → t m ≡ u m) ⊎ (length (kept b t) < length (kept b u))
 
-grows_step : (b : ℕ) (t u : ℕ → Bool) (p q : Bool) → t b ≡ p → u b ≡ q → (p ≡ true → q ≡ true) → Grows b t u → length (kept b t) ≤ length (kept b u) → Grows (suc b) t u
+grows_step : (b : ℕ) (t u : ℕ → Bool) (p q : Bool) → t b ≡ p → u b ≡ q → (p ≡ true → q ≡ true) → Grows b t u → length (kept b t) ≤ length (kept b u)
+    → Grows (suc b) t u
 grows_step b t u true false e f h k le = absurd (false≢true (h refl))
 grows_step b t u false true e f h k le =
     let x : bit (t b) ≡ 0 = rw e refl in

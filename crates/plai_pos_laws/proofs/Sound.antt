@@ -1,5 +1,33 @@
 -- Soundness of the operations for tuples of terms and instances of clauses.
-use Rattle.std.proofs.Common.{◌≡◌, ℕ, zero, suc, ◌+◌, ◌*◌, ◌%◌, ◌^◌, ◌<◌, Bool, true, false, nat_eq, List, [], ◌∷◌, ◌++◌, length, map, get_or, refl, sym, ap, ◌∙◌, arith, subst, length-append}
+use Rattle.std.proofs.Common.{
+  ◌≡◌,
+  ℕ,
+  zero,
+  suc,
+  ◌+◌,
+  ◌*◌,
+  ◌%◌,
+  ◌^◌,
+  ◌<◌,
+  Bool,
+  true,
+  false,
+  nat_eq,
+  List,
+  [],
+  ◌∷◌,
+  ◌++◌,
+  length,
+  map,
+  get_or,
+  refl,
+  sym,
+  ap,
+  ◌∙◌,
+  arith,
+  subst,
+  length-append,
+}
 use Rattle.std.proofs.lemmas.Bool.{eq-eqb, ne_eqb, and_parts}
 use Rattle.std.proofs.lemmas.List.{length-map, get_or-map, get_or-append-add, map-append}
 use Rattle.std.proofs.lemmas.Nat.{mod_low, shr_high}
@@ -75,7 +103,8 @@ module _ (s : List (ℕ × Term)) (hs ts : List Term) where
       ∙ sym (is_ground-apply (composed (numbered 0 ts) s) t)
       ∙ ap is_ground (apply_of-composed (numbered 0 ts) s t)
 
-  pub truths_are : (args : List Term) → all_below (length ts) args ≡ true → truths (length hs) whole args ≡ grounds (map (apply_of s) (map (instance_of ts) args))
+  pub truths_are : (args : List Term) → all_below (length ts) args ≡ true
+      → truths (length hs) whole args ≡ grounds (map (apply_of s) (map (instance_of ts) args))
   truths_are [] below = refl
   truths_are (t ∷ args) below =
       let r = and_parts (has_variables_below (length ts) t) (all_below (length ts) args) below in
@@ -125,13 +154,15 @@ module _ (hs ts args : List Term) (below : all_below (length ts) args ≡ true) 
 
   -- the slots of the literal tell what is ground
   literal_slot : (s : List (ℕ × Term)) (j : ℕ) → j < length args
-      → has_slot (extended (length hs) (length ts) args (ground_in (composed r s) (hs ++ ts))) (length hs + length ts + j) ≡ is_ground (apply_of s (apply_of r (get_or passed j (Var 0))))
+      → has_slot (extended (length hs) (length ts) args (ground_in (composed r s) (hs ++ ts))) (length hs + length ts + j)
+      ≡ is_ground (apply_of s (apply_of r (get_or passed j (Var 0))))
   literal_slot s j l =
       let x : ℕ = ground_in (composed r s) (hs ++ ts) in
       let size : length passed ≡ length args = length-map args (instance_of ts) in
       let within : j < length (map (apply_of r) passed) = omega (arith, l, size, length-map passed (apply_of r)) in
       sym (slot_high (extended (length hs) (length ts) args (ground_in (composed r s) (hs ++ ts))) (length hs + length ts) j)
-      ∙ ap (λ z. has_slot z j) (shr_high (pattern (truths (length hs) (ground_in (composed r s) (hs ++ ts)) args)) (length hs + length ts) (ground_in (composed r s) (hs ++ ts)) (whole_lt (composed r s) hs ts) ∙ parts_after s)
+      ∙ ap (λ z. has_slot z j) (shr_high (pattern (truths (length hs) (ground_in (composed r s) (hs ++ ts)) args)) (length hs + length ts)
+      (ground_in (composed r s) (hs ++ ts)) (whole_lt (composed r s) hs ts) ∙ parts_after s)
       ∙ slot_of_ground s (map (apply_of r) passed) j within
       ∙ ap (λ t. is_ground (apply_of s t)) (get_or-map (apply_of r) passed j (Var 0) (Var 0) (omega (arith, l, size)))
 
@@ -142,8 +173,10 @@ module _ (hs ts args : List Term) (below : all_below (length ts) args ≡ true) 
       ap (has (acted (length hs) (length ts) args test xs)) (moved r s hs ts)
       ∙ acted_in (length hs) (length ts) args below test xs (ground_in (composed r s) (hs ++ ts)) (d (composed r s)) (whole_lt (composed r s) hs ts) (t s)
 
-  pub both_sound : (i j : ℕ) (xs : List ℕ) → i < length args → j < length args → apply_of r (get_or passed i (Var 0)) ≡ apply_of r (get_or passed j (Var 0)) → describes_instance xs hs ts
-      → describes_instance (acted (length hs) (length ts) args (λ y. agree (has_slot y (length hs + length ts + i)) (has_slot y (length hs + length ts + j))) xs) (map (apply_of r) hs) (map (apply_of r) ts)
+  pub both_sound : (i j : ℕ) (xs : List ℕ) → i < length args → j < length args → apply_of r (get_or passed i (Var 0)) ≡ apply_of r (get_or passed j (Var 0))
+      → describes_instance xs hs ts
+      → describes_instance (acted (length hs) (length ts) args (λ y. agree (has_slot y (length hs + length ts + i)) (has_slot y (length hs + length ts + j)))
+      xs) (map (apply_of r) hs) (map (apply_of r) ts)
   both_sound i j xs k l e d =
       acted_sound (λ y. agree (has_slot y (length hs + length ts + i)) (has_slot y (length hs + length ts + j))) xs d
       (λ s. same_agree _ _ (literal_slot s i k ∙ ap (λ t. is_ground (apply_of s t)) e ∙ sym (literal_slot s j l)))
@@ -169,7 +202,8 @@ enter_sound goal head ts r call len below same d s =
     let fits : ground_in s (map (apply_of r) goal ++ ts) < 2 ^ (length goal + length ts) =
     subst (λ k. ground_in s (map (apply_of r) goal ++ ts) < 2 ^ (k + length ts)) size (whole_lt s (map (apply_of r) goal) ts) in
     let told : truths (length goal) (ground_in s (map (apply_of r) goal ++ ts)) head ≡ grounds (map (apply_of s) (map (apply_of r) goal)) =
-    ap (λ k. truths k (ground_in s (map (apply_of r) goal ++ ts)) head) (sym size) ∙ truths_are s (map (apply_of r) goal) ts head below ∙ ap (λ l. grounds (map (apply_of s) l)) same in
+    ap (λ k. truths k (ground_in s (map (apply_of r) goal ++ ts)) head) (sym size) ∙ truths_are s (map (apply_of r) goal) ts head below
+    ∙ ap (λ l. grounds (map (apply_of s) l)) same in
     enter_in (length goal) (length ts) head call (ground_in s (map (apply_of r) goal ++ ts)) len fits
     (ap (has call) low ∙ describes_more call goal r d s)
     (low ∙ sym (ap pattern told))

@@ -34,11 +34,13 @@ pub describe_describes : (pre : List Prop) (terms : List Term) → All (speaks_w
 describe_describes pre terms w h = record { is_value = describe_value (length terms) pre w; described = describe_sound terms pre w h }
 
 -- what is entailed, each described tuple has
-pub entailed_holds : (a : Abs) (p : Prop) (terms : List Term) → speaks_within (length terms) p → Describes a terms → groundness.entails a p ≡ true → has_property terms p
+pub entailed_holds : (a : Abs) (p : Prop) (terms : List Term) → speaks_within (length terms) p → Describes a terms → groundness.entails a p ≡ true
+    → has_property terms p
 entailed_holds a p terms w d e = entails_sound terms (masks_of a) p w d.described e
 
 -- what is excluded, no described tuple has
-pub excluded_fails : (a : Abs) (p : Prop) (terms : List Term) → speaks_within (length terms) p → Describes a terms → groundness.excludes a p ≡ true → has_property terms p → ⊥
+pub excluded_fails : (a : Abs) (p : Prop) (terms : List Term) → speaks_within (length terms) p → Describes a terms → groundness.excludes a p ≡ true
+    → has_property terms p → ⊥
 excluded_fails a p terms w d e h = excludes_sound terms (masks_of a) p w d.described e h
 
 -- ---- a clause whose head has the arguments hs, and whose variables are the terms ts
@@ -97,9 +99,11 @@ module _ (s : StateView) (hs ts : List Term) (d : DescribesInstance s hs ts) whe
     pub back_describes : (answer : Abs) → Describes answer (map (apply_of r) (map (instance_of ts) args))
         → (next : StateView) × ((groundness.back s args answer).value ≡ Some next) × DescribesInstance next (map (apply_of r) hs) (map (apply_of r) ts)
     back_describes answer a =
-        let size : length (map (apply_of r) (map (instance_of ts) args)) ≡ length args = length-map (map (instance_of ts) args) (apply_of r) ∙ length-map args (instance_of ts) in
+        let size : length (map (apply_of r) (map (instance_of ts) args)) ≡ length args =
+        length-map (map (instance_of ts) args) (apply_of r) ∙ length-map args (instance_of ts) in
         let positive : IsPositive (length args) (masks_of answer) = subst (λ k. IsPositive k (masks_of answer)) size a.is_value.order.first in
-        at_masks (λ s. (next : StateView) × ((groundness.back s args answer).value ≡ Some next) × DescribesInstance next (map (apply_of r) hs) (map (apply_of r) ts)) (
+        at_masks (λ s. (next : StateView) × ((groundness.back s args answer).value ≡ Some next)
+        × DescribesInstance next (map (apply_of r) hs) (map (apply_of r) ts)) (
           state_with (length hs) (length ts) (back_of (length hs) (length ts) args (masks_of answer) masks),
           refl,
           state_describes (length hs) (length ts) (back_of (length hs) (length ts) args (masks_of answer) masks) (map (apply_of r) hs) (map (apply_of r) ts)
@@ -113,7 +117,8 @@ module _ (s : StateView) (hs ts : List Term) (d : DescribesInstance s hs ts) whe
         → (next : StateView) × ((groundness.refine s args action).value ≡ Some next) × DescribesInstance next (map (apply_of r) hs) (map (apply_of r) ts)
     refine_describes action w h =
         let (ys, given, moved) = refine_sound hs ts args below action r masks w d.described h in
-        at_masks (λ s. (next : StateView) × ((groundness.refine s args action).value ≡ Some next) × DescribesInstance next (map (apply_of r) hs) (map (apply_of r) ts)) (
+        at_masks (λ s. (next : StateView) × ((groundness.refine s args action).value ≡ Some next)
+        × DescribesInstance next (map (apply_of r) hs) (map (apply_of r) ts)) (
           state_with (length hs) (length ts) ys,
           ap (state_from (length hs) (length ts)) given,
           state_describes (length hs) (length ts) ys (map (apply_of r) hs) (map (apply_of r) ts)

@@ -101,7 +101,11 @@ module _ (limit : ℕ) where
     variable = λ n. variable n (nat_lt n limit) refl;
     integer = λ n. record { term = Int n; below = has_variables_below-Int n };
     atom = λ name. record { term = Atom name; below = has_variables_below-Atom name };
-    compound = λ name cs. record { term = Compound name (map (λ c. c.term) cs); below = has_variables_below-Compound name (map (λ c. c.term) cs) ∙ all_below cs };
+    compound = λ name cs. record {
+      term = Compound name (map (λ c. c.term) cs);
+      below =
+          has_variables_below-Compound name (map (λ c. c.term) cs) ∙ all_below cs;
+    };
   }
 
   variable-term : (n : ℕ) (b : Bool) (e : nat_lt n limit ≡ b) → b ≡ true → (variable n b e).term ≡ Var n

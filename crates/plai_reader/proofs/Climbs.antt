@@ -7,7 +7,23 @@ use Rattle.plai_reader.specs.Level.{Builder, Link, applied}
 use Rattle.plai_reader.specs.declared.level.Frame.{Frame}
 use Rattle.plai_reader.specs.Kinds.{leans_right}
 use Rattle.plai_reader.specs.Climb.{holds, finished, popped, climbed}
-use Rattle.plai_reader.proofs.Spine.{Place, Spine, leaf, node, joined, value, enter, enter_all, Dead, Dead-enter_all, fresh, same-above, Dead-above, enter-held, enter-free}
+use Rattle.plai_reader.proofs.Spine.{
+  Place,
+  Spine,
+  leaf,
+  node,
+  joined,
+  value,
+  enter,
+  enter_all,
+  Dead,
+  Dead-enter_all,
+  fresh,
+  same-above,
+  Dead-above,
+  enter-held,
+  enter-free,
+}
 
 module _ {T : Type 0} (build : Builder T) where
   -- the frames above a spine
@@ -19,15 +35,18 @@ module _ {T : Type 0} (build : Builder T) where
   some_then None = refl
   some_then (Some x) = refl
 
-  then_then : (f g : Place T → Option (Place T)) (v : Option (Place T)) → option_and_then g (option_and_then f v) ≡ option_and_then (λ x. option_and_then g (f x)) v
+  then_then : (f g : Place T → Option (Place T)) (v : Option (Place T))
+      → option_and_then g (option_and_then f v) ≡ option_and_then (λ x. option_and_then g (f x)) v
   then_then f g None = refl
   then_then f g (Some x) = refl
 
   plug-value : (fs : List (Frame T)) (s : Spine T) → value build (plug fs s) ≡ option_and_then (finished build fs) (value build s)
   plug-value [] s = some_then (value build s)
-  plug-value (f ∷ fs) s = plug-value fs (node (Some f.left) f.operator s) ∙ then_then (λ right. applied build f.operator f.left right) (finished build fs) (value build s)
+  plug-value (f ∷ fs) s = plug-value fs (node (Some f.left) f.operator s)
+      ∙ then_then (λ right. applied build f.operator f.left right) (finished build fs) (value build s)
 
-  plug-same : (n : Link T) (fs : List (Frame T)) (a b : Spine T) → value build a ≡ value build b → enter build n a ≡ enter build n b → enter build n (plug fs a) ≡ enter build n (plug fs b)
+  plug-same : (n : Link T) (fs : List (Frame T)) (a b : Spine T) → value build a ≡ value build b → enter build n a ≡ enter build n b
+      → enter build n (plug fs a) ≡ enter build n (plug fs b)
   plug-same n [] a b p q = q
   plug-same n (f ∷ fs) a b p q =
       plug-same n fs (node (Some f.left) f.operator a) (node (Some f.left) f.operator b)
@@ -92,26 +111,33 @@ module _ {T : Type 0} (build : Builder T) where
       [ true ↦ refl | false ↦ t ]
 
   module _ (n : Link T) (ns : List (Link T)) (rest : List (Frame T) → Place T → Option (Place T))
-      (each : (fs : List (Frame T)) (current : Place T) → HoldAll fs n.operator → Chain fs → rest fs current ≡ value build (enter_all build (plug fs (fresh build (Some current) n)) ns)) where
+      (each : (fs : List (Frame T)) (current : Place T) → HoldAll fs n.operator → Chain fs
+      → rest fs current ≡ value build (enter_all build (plug fs (fresh build (Some current) n)) ns)) where
     -- the top frame is applied, to a value or to none
-    top_applied : (f : Frame T) (fs : List (Frame T)) (current : Place T) (v : Option (Place T)) → applied build f.operator f.left current ≡ v → holds f.operator n.operator ≡ false
+    top_applied : (f : Frame T) (fs : List (Frame T)) (current : Place T) (v : Option (Place T)) → applied build f.operator f.left current ≡ v
+        → holds f.operator n.operator ≡ false
         → ((next : Place T) → reduced n.operator rest fs next ≡ value build (enter_all build (enter build n (plug fs (leaf next))) ns))
-        → option_and_then (reduced n.operator rest fs) v ≡ value build (enter_all build (enter build n (plug fs (node (Some f.left) f.operator (leaf current)))) ns)
+        → option_and_then (reduced n.operator rest fs) v
+        ≡ value build (enter_all build (enter build n (plug fs (node (Some f.left) f.operator (leaf current)))) ns)
     top_applied f fs current None e h below =
         let free = enter-free build n (Some f.left) f.operator (leaf current) h in
-        let dead : Dead build (enter build n (node (Some f.left) f.operator (leaf current))) = subst (Dead build) (sym (free ∙ ap (λ v. fresh build v n) e)) tt in
-        sym (Dead-enter_all build (enter build n (plug fs (node (Some f.left) f.operator (leaf current)))) ns (plug-Dead n fs (node (Some f.left) f.operator (leaf current)) e dead))
+        let dead : Dead build (enter build n (node (Some f.left) f.operator (leaf current))) =
+        subst (Dead build) (sym (free ∙ ap (λ v. fresh build v n) e)) tt in
+        sym (Dead-enter_all build (enter build n (plug fs (node (Some f.left) f.operator (leaf current)))) ns
+        (plug-Dead n fs (node (Some f.left) f.operator (leaf current)) e dead))
     top_applied f fs current (Some next) e h below =
         let free = enter-free build n (Some f.left) f.operator (leaf current) h in
         let same : enter build n (plug fs (leaf next)) ≡ enter build n (plug fs (node (Some f.left) f.operator (leaf current))) =
         plug-same n fs (leaf next) (node (Some f.left) f.operator (leaf current)) (sym e) (sym (free ∙ ap (λ v. fresh build v n) e)) in
         below next ∙ ap (λ s. value build (enter_all build s ns)) same
 
-    pub reduced-is : (fs : List (Frame T)) (current : Place T) → Chain fs → reduced n.operator rest fs current ≡ value build (enter_all build (enter build n (plug fs (leaf current))) ns)
+    pub reduced-is : (fs : List (Frame T)) (current : Place T) → Chain fs
+        → reduced n.operator rest fs current ≡ value build (enter_all build (enter build n (plug fs (leaf current))) ns)
     reduced-is [] current c = each [] current tt tt
     reduced-is (f ∷ fs) current c =
         let goal : Bool → Type 0 = λ b. holds f.operator n.operator ≡ b → cond b (rest (f ∷ fs) current)
-        (option_and_then (reduced n.operator rest fs) (applied build f.operator f.left current)) ≡ value build (enter_all build (enter build n (plug (f ∷ fs) (leaf current))) ns) in
+        (option_and_then (reduced n.operator rest fs) (applied build f.operator f.left current))
+        ≡ value build (enter_all build (enter build n (plug (f ∷ fs) (leaf current))) ns) in
         let split : goal (holds f.operator n.operator) = elim (holds f.operator n.operator) as goal [
           | true ↦ λ h.
               let all : HoldAll (f ∷ fs) n.operator = (h, HoldAll-along fs f.operator n.operator c.0 h) in
@@ -121,7 +147,8 @@ module _ {T : Type 0} (build : Builder T) where
         split refl
 
   -- climbing gives the value of the spine that the frames and the links make
-  pub climbed-is : (fs : List (Frame T)) (current : Place T) (ns : List (Link T)) → Chain fs → climbed build fs current ns ≡ value build (enter_all build (plug fs (leaf current)) ns)
+  pub climbed-is : (fs : List (Frame T)) (current : Place T) (ns : List (Link T)) → Chain fs
+      → climbed build fs current ns ≡ value build (enter_all build (plug fs (leaf current)) ns)
   climbed-is fs current [] c = sym (plug-value fs (leaf current))
   climbed-is fs current (n ∷ ns) c =
       sym (reduced-popped n.operator (λ gs left. climbed build (record { left = left; operator = n.operator } ∷ gs) n.place ns) fs current)

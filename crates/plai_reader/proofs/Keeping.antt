@@ -1,5 +1,31 @@
 -- What is kept of a term is built of what is kept of its arguments.
-use Rattle.std.proofs.Common.{◌≡◌, ℕ, ℤ, ◌+◌, ◌≤◌, ◌<◌, min, max, fold, Bool, true, false, cond, List, [], ◌∷◌, ◌++◌, map, length, refl, ap, sym, ◌∙◌, arith, rules}
+use Rattle.std.proofs.Common.{
+  ◌≡◌,
+  ℕ,
+  ℤ,
+  ◌+◌,
+  ◌≤◌,
+  ◌<◌,
+  min,
+  max,
+  fold,
+  Bool,
+  true,
+  false,
+  cond,
+  List,
+  [],
+  ◌∷◌,
+  ◌++◌,
+  map,
+  length,
+  refl,
+  ap,
+  sym,
+  ◌∙◌,
+  arith,
+  rules,
+}
 use Rattle.std.specs.Prelude.{◌||◌, nat_lt, nat_le}
 use Rattle.std.specs.List.{list_any, flat_map}
 use Rattle.std.proofs.lemmas.Bool.Decides.{nat_tests}
@@ -19,7 +45,8 @@ test_gt n e = grind (arith, nat_tests)
 depth_of-Compound : (name : List ℕ) (args : List Term) → depth_of (Compound name args) ≡ 1 + fold max 0 (map depth_of args)
 depth_of-Compound name args = search (rules, the_lemmas)
 
-is_wide-Compound : (name : List ℕ) (args : List Term) → is_wide (Compound name args) ≡ (nat_lt 255 (length (map is_wide args)) || list_any (λ b. b) (map is_wide args))
+is_wide-Compound : (name : List ℕ) (args : List Term)
+    → is_wide (Compound name args) ≡ (nat_lt 255 (length (map is_wide args)) || list_any (λ b. b) (map is_wide args))
 is_wide-Compound name args = search (rules, the_lemmas)
 
 -- the greatest of these and a start

@@ -22,7 +22,29 @@ use Rattle.plai_reader.specs.Operators.{Table}
 use Rattle.plai_reader.specs.declared.variables.Variables.{Variables}
 use Rattle.plai_reader.specs.Variables.{no_variables, number_at, after_token, after_tokens}
 use Rattle.plai_reader.specs.Roles.{nil, is_end, decided}
-use Rattle.plai_reader.specs.Reading.{Layer, State, within, limit_of, list_of, leaf_tree, closed, put, back, pushed, begun, fresh, item, performed, noted, behind, ended, last, run, start, read_of}
+use Rattle.plai_reader.specs.Reading.{
+  Layer,
+  State,
+  within,
+  limit_of,
+  list_of,
+  leaf_tree,
+  closed,
+  put,
+  back,
+  pushed,
+  begun,
+  fresh,
+  item,
+  performed,
+  noted,
+  behind,
+  ended,
+  last,
+  run,
+  start,
+  read_of,
+}
 use Rattle.plai_reader.proofs.Spine.{Place}
 use Rattle.plai_reader.proofs.Numbers.{IsNumbering, no_variables-IsNumbering, after_token-IsNumbering, after_tokens-grows, number_at-below}
 use Rattle.plai_reader.proofs.Decisions.{LeafBelow, ActionBelow, MaybeBelow, decided-below}
@@ -109,7 +131,8 @@ module _ {T U : Type 0} (limit : ℕ) (A : Builder T) (B : Builder U) (h : T →
       ∙ ap (over B o (option_map (map h) (taken (left_of o.kind) o.priority left))) (taken-map h (right_of o.kind) o.priority right)
       ∙ over-map o (taken (left_of o.kind) o.priority left) (taken (right_of o.kind) o.priority right)
 
-  finished-map : (fs : List (Frame T)) (current : Place T) → finished B (map (frame_map h) fs) (place_map h current) ≡ option_map (place_map h) (finished A fs current)
+  finished-map : (fs : List (Frame T)) (current : Place T)
+      → finished B (map (frame_map h) fs) (place_map h current) ≡ option_map (place_map h) (finished A fs current)
   finished-map [] current = refl
   finished-map (f ∷ fs) current =
       ap (option_and_then (finished B (map (frame_map h) fs))) (applied-map f.operator f.left current)
@@ -122,7 +145,8 @@ module _ {T U : Type 0} (limit : ℕ) (A : Builder T) (B : Builder U) (h : T →
       let below : option_and_then (popped B next (map (frame_map h) fs)) (applied B f.operator (place_map h f.left) (place_map h current))
       ≡ option_map (pop_map h) (option_and_then (popped A next fs) (applied A f.operator f.left current)) =
       ap (option_and_then (popped B next (map (frame_map h) fs))) (applied-map f.operator f.left current)
-      ∙ then_map (popped A next fs) (popped B next (map (frame_map h) fs)) (place_map h) (pop_map h) (applied A f.operator f.left current) (λ c. popped-map next fs c) in
+      ∙ then_map (popped A next fs) (popped B next (map (frame_map h) fs)) (place_map h) (pop_map h) (applied A f.operator f.left current)
+      (λ c. popped-map next fs c) in
       ap (cond (holds f.operator next) (Some (map (frame_map h) (f ∷ fs), place_map h current))) below
       ∙ cond_map (holds f.operator next) (pop_map h) (Some (f ∷ fs, current)) (option_and_then (popped A next fs) (applied A f.operator f.left current))
 
@@ -165,8 +189,10 @@ module _ {T U : Type 0} (limit : ℕ) (A : Builder T) (B : Builder U) (h : T →
   back-map t (l ∷ ls) m vs = refl
 
   push-map : (o : Operator) (s : State T) (v : Option (List (Frame T) × Place T))
-      → option_and_then (λ frames. Some (pushed o (state_map h s) frames)) (option_and_then (λ p. Some (record { left = p.1; operator = o } ∷ p.0)) (option_map (pop_map h) v))
-      ≡ option_map (state_map h) (option_and_then (λ frames. Some (pushed o s frames)) (option_and_then (λ p. Some (record { left = p.1; operator = o } ∷ p.0)) v))
+      → option_and_then (λ frames. Some (pushed o (state_map h s) frames))
+      (option_and_then (λ p. Some (record { left = p.1; operator = o } ∷ p.0)) (option_map (pop_map h) v))
+      ≡ option_map (state_map h) (option_and_then (λ frames. Some (pushed o s frames))
+      (option_and_then (λ p. Some (record { left = p.1; operator = o } ∷ p.0)) v))
   push-map o s None = refl
   push-map o s (Some p) = refl
 
@@ -212,7 +238,8 @@ module _ {T U : Type 0} (limit : ℕ) (A : Builder T) (B : Builder U) (h : T →
   then_map_where vs f g (Some t) k e = e t k
 
   step-map : (table : Table) (x : Token) (xs : List Token) (s : State T) (v : Option Action) → MaybeBelow limit v
-      → ((t : State T) → t.variables ≡ after_token s.variables x.kind → run B (climbing B) table (behind x (state_map h t)) xs ≡ option_map h (run A (climbing A) table (behind x t) xs))
+      → ((t : State T) → t.variables ≡ after_token s.variables x.kind
+      → run B (climbing B) table (behind x (state_map h t)) xs ≡ option_map h (run A (climbing A) table (behind x t) xs))
       → option_and_then (λ a. option_and_then (λ t. run B (climbing B) table (behind x t) xs) (performed B (climbing B) a (noted x (state_map h s)))) v
       ≡ option_map h (option_and_then (λ a. option_and_then (λ t. run A (climbing A) table (behind x t) xs) (performed A (climbing A) a (noted x s))) v)
   step-map table x xs s None p below = refl
@@ -228,7 +255,8 @@ module _ {T U : Type 0} (limit : ℕ) (A : Builder T) (B : Builder U) (h : T →
       let now : (after_token s.variables x.kind).count ≤ limit = let q = after_tokens-grows (after_token s.variables x.kind) xs in omega arith in
       let number = number_at s.variables x.kind in
       let below = decided-below limit table number s.mode s.inner.bracket x.kind xs (number_at-below s.variables x.kind limit n now) in
-      let next : (t : State T) → t.variables ≡ after_token s.variables x.kind → run B (climbing B) table (behind x (state_map h t)) xs ≡ option_map h (run A (climbing A) table (behind x t) xs)
+      let next : (t : State T) → t.variables ≡ after_token s.variables x.kind
+      → run B (climbing B) table (behind x (state_map h t)) xs ≡ option_map h (run A (climbing A) table (behind x t) xs)
       = λ t e. run-map table xs (behind x t)
       (subst IsNumbering (sym e) (after_token-IsNumbering s.variables x.kind n))
       (subst (λ vs. (after_tokens vs xs).count ≤ limit) (sym e) p) in

@@ -88,7 +88,8 @@ abbrev pub IsBelow : ℕ → TokenKind → ℕ → Type 0
 IsBelow limit (token.Var name) n = n < limit
 IsBelow limit _ n = Unit {0}
 
-pub number_at-below : (vs : Variables) (kind : TokenKind) (limit : ℕ) → IsNumbering vs → (after_token vs kind).count ≤ limit → IsBelow limit kind (number_at vs kind)
+pub number_at-below : (vs : Variables) (kind : TokenKind) (limit : ℕ) → IsNumbering vs → (after_token vs kind).count ≤ limit
+    → IsBelow limit kind (number_at vs kind)
 number_at-below vs (token.Var name) limit h p =
     let q = number-below vs name (known vs name) (known-below vs name h) in
     omega arith

@@ -29,12 +29,14 @@ module _ (table : Table) (tokens : List Token) where
   pub passes_next : (s t : State Tree) (x : Token) (xs : List Token) → Passes table tokens (x ∷ xs) s → is_end x.kind ≡ false
       → stepped kept_trees (climbing kept_trees) table s x xs ≡ Some t → Passes table tokens xs t
   passes_next s t x xs p e h =
-      let vs : t.variables ≡ after_token s.variables x.kind = subst (VariablesAre (after_token s.variables x.kind)) h (stepped-variables kept_trees (climbing kept_trees) table s x xs) in
+      let vs : t.variables ≡ after_token s.variables x.kind =
+      subst (VariablesAre (after_token s.variables x.kind)) h (stepped-variables kept_trees (climbing kept_trees) table s x xs) in
       let grows = (after_token-grows s.variables x.kind).1 in
       let few = p.few in
       let counts = ap (λ vs. vs.count) vs in
       record {
-        tree = sym (ap (λ b. cond b (last (climbing kept_trees) s xs) (option_and_then (λ u. run kept_trees (climbing kept_trees) table u xs) (stepped kept_trees (climbing kept_trees) table s x xs))) e
+        tree = sym (ap (λ b. cond b (last (climbing kept_trees) s xs)
+            (option_and_then (λ u. run kept_trees (climbing kept_trees) table u xs) (stepped kept_trees (climbing kept_trees) table s x xs))) e
             ∙ ap (option_and_then (λ u. run kept_trees (climbing kept_trees) table u xs)) h) ∙ p.tree;
         numbers = ap (λ vs. after_tokens vs xs) vs ∙ p.numbers;
         few = omega arith;

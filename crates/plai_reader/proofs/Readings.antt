@@ -16,7 +16,30 @@ use Rattle.plai_reader.specs.Operators.{Table}
 use Rattle.plai_reader.specs.declared.variables.Variables.{Variables}
 use Rattle.plai_reader.specs.Variables.{number_at, after_token}
 use Rattle.plai_reader.specs.Roles.{is_end, decided}
-use Rattle.plai_reader.specs.Reading.{Layer, State, first_place, links_of, whole, wanting, within, limit_of, closed, leaf_tree, placed, back, pushed, item, performed, noted, behind, ended, last, run, start, read_of}
+use Rattle.plai_reader.specs.Reading.{
+  Layer,
+  State,
+  first_place,
+  links_of,
+  whole,
+  wanting,
+  within,
+  limit_of,
+  closed,
+  leaf_tree,
+  placed,
+  back,
+  pushed,
+  item,
+  performed,
+  noted,
+  behind,
+  ended,
+  last,
+  run,
+  start,
+  read_of,
+}
 use Rattle.plai_reader.proofs.Spine.{Place}
 use Rattle.plai_reader.proofs.Trees.{climbed-tree}
 use Rattle.plai_reader.proofs.Runs.{run-cons}
@@ -137,7 +160,8 @@ module _ {T : Type 0} (build : Builder T) where
       → option_and_then (λ a. option_and_then (λ t. run build (whole build) table (behind x t) xs) (performed build (whole build) a (noted x s))) v ≡ None
   decided-dead table s x xs None h below = refl
   decided-dead table s x xs (Some a) h below =
-      after-dead (λ t. run build (whole build) table (behind x t) xs) (performed build (whole build) a (noted x s)) (performed-dead a (noted x s) h) (λ t d. below (behind x t) d)
+      after-dead (λ t. run build (whole build) table (behind x t) xs) (performed build (whole build) a (noted x s)) (performed-dead a (noted x s) h)
+      (λ t d. below (behind x t) d)
 
   -- once a level has no tree, there is no term
   pub run-dead : (table : Table) (s : State T) (ts : List Token) → DeadIn (s.inner ∷ s.outer) → run build (whole build) table s ts ≡ None
@@ -234,13 +258,26 @@ module _ {T : Type 0} (build : Builder T) where
     performed-same (action.Push o) p = push-same o p (popped build o p.inner.frames p.inner.place) refl
     performed-same (action.Wait w) p =
         alike.at (record { inner = p.inner; outer = p.outer; mode = record { wanted = true; pending = w; at_edge = p.mode.at_edge }; variables = p.variables })
-    performed-same (action.Begin b) p = alike.at (record { inner = fresh_pair b []; outer = p.inner ∷ p.outer; mode = wanting true p.mode; variables = p.variables })
+    performed-same (action.Begin b) p = alike.at
+        (record { inner = fresh_pair b []; outer = p.inner ∷ p.outer; mode = wanting true p.mode; variables = p.variables })
     performed-same action.Item p =
         items-same _ _ (item (whole build) (left_state p)) (item (climbing build) (right_state p)) (item-same p)
-        (λ t. alike.at (record { inner = fresh_pair p.inner.bracket (p.inner.items ++ t ∷ []); outer = p.outer; mode = wanting true p.mode; variables = p.variables }))
+        (λ t. alike.at (record {
+          inner = fresh_pair p.inner.bracket (p.inner.items ++ t ∷ []);
+          outer = p.outer;
+          mode = wanting true p.mode;
+          variables =
+              p.variables;
+        }))
     performed-same action.Tail p =
         items-same _ _ (item (whole build) (left_state p)) (item (climbing build) (right_state p)) (item-same p)
-        (λ t. alike.at (record { inner = fresh_pair bracket.Tail (p.inner.items ++ t ∷ []); outer = p.outer; mode = wanting true p.mode; variables = p.variables }))
+        (λ t. alike.at (record {
+          inner = fresh_pair bracket.Tail (p.inner.items ++ t ∷ []);
+          outer = p.outer;
+          mode = wanting true p.mode;
+          variables =
+              p.variables;
+        }))
     performed-same action.End p =
         items-same _ _ (item (whole build) (left_state p)) (item (climbing build) (right_state p)) (item-same p)
         (λ t. back-same (closed build p.inner.bracket p.inner.items t) p.outer p.mode p.variables)
@@ -259,7 +296,8 @@ module _ {T : Type 0} (build : Builder T) where
   step-same : (table : Table) (x : Token) (xs : List Token) (p : Pairs) (v : Option Action)
       → Alike (λ t. run build (whole build) table (behind x t) xs) (λ t. run build (climbing build) table (behind x t) xs)
       → option_and_then (λ a. option_and_then (λ t. run build (whole build) table (behind x t) xs) (performed build (whole build) a (noted x (left_state p)))) v
-      ≡ option_and_then (λ a. option_and_then (λ t. run build (climbing build) table (behind x t) xs) (performed build (climbing build) a (noted x (right_state p)))) v
+      ≡ option_and_then (λ a. option_and_then (λ t. run build (climbing build) table (behind x t) xs)
+      (performed build (climbing build) a (noted x (right_state p)))) v
   step-same table x xs p None alike = refl
   step-same table x xs p (Some a) alike =
       performed-same (λ t. run build (whole build) table (behind x t) xs) (λ t. run build (climbing build) table (behind x t) xs) alike a (noted_pairs x p)
@@ -267,7 +305,8 @@ module _ {T : Type 0} (build : Builder T) where
   abbrev behind_pairs : Token → Pairs → Pairs
   behind_pairs x p = record { inner = p.inner; outer = p.outer; mode = (behind x (left_state p)).mode; variables = p.variables }
 
-  pub run-same : (table : Table) (ts : List Token) (p : Pairs) → run build (whole build) table (left_state p) ts ≡ run build (climbing build) table (right_state p) ts
+  pub run-same : (table : Table) (ts : List Token) (p : Pairs)
+      → run build (whole build) table (left_state p) ts ≡ run build (climbing build) table (right_state p) ts
   run-same table [] p = refl
   run-same table (x ∷ xs) p =
       let step = step-same table x xs p (decided table (number_at p.variables x.kind) p.mode p.inner.bracket x.kind xs)
@@ -277,7 +316,8 @@ module _ {T : Type 0} (build : Builder T) where
       (option_and_then (λ a. option_and_then (λ t. run build (whole build) table (behind x t) xs) (performed build (whole build) a (noted x (left_state p))))
       (decided table (number_at p.variables x.kind) p.mode p.inner.bracket x.kind xs))
       ≡ cond b (last (climbing build) (right_state p) xs)
-      (option_and_then (λ a. option_and_then (λ t. run build (climbing build) table (behind x t) xs) (performed build (climbing build) a (noted x (right_state p))))
+      (option_and_then (λ a. option_and_then (λ t. run build (climbing build) table (behind x t) xs)
+      (performed build (climbing build) a (noted x (right_state p))))
       (decided table (number_at p.variables x.kind) p.mode p.inner.bracket x.kind xs)))
       [ true ↦ last-same p xs | false ↦ step ]
       ∙ sym (run-cons build (climbing build) table (right_state p) x xs)

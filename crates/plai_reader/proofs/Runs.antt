@@ -54,7 +54,8 @@ module _ {T : Type 0} (build : Builder T) (w : Way T) where
   behind-variables vs x (Some t) e = e
 
   -- a token changes them once
-  pub stepped-variables : (table : Table) (s : State T) (x : Token) (xs : List Token) → VariablesAre (after_token s.variables x.kind) (stepped build w table s x xs)
+  pub stepped-variables : (table : Table) (s : State T) (x : Token) (xs : List Token)
+      → VariablesAre (after_token s.variables x.kind) (stepped build w table s x xs)
   stepped-variables table s x xs =
       then_are (after_token s.variables x.kind) (λ a. option_and_then (λ t. Some (behind x t)) (performed build w a (noted x s)))
       (decided table (number_at s.variables x.kind) s.mode s.inner.bracket x.kind xs)

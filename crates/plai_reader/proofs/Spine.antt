@@ -63,7 +63,8 @@ module _ {T : Type 0} (build : Builder T) where
   pub same-above : (n : Link T) (l : Option (Place T)) (o : Operator) (a b : Spine T) → value a ≡ value b → enter n a ≡ enter n b
       → enter n (node l o a) ≡ enter n (node l o b)
   same-above n l o a b p q =
-      elim (holds o n.operator) as (λ t. cond t (node l o (enter n a)) (fresh (joined o l (value a)) n) ≡ cond t (node l o (enter n b)) (fresh (joined o l (value b)) n))
+      elim (holds o n.operator) as (λ t. cond t (node l o (enter n a)) (fresh (joined o l (value a)) n)
+      ≡ cond t (node l o (enter n b)) (fresh (joined o l (value b)) n))
       [ true ↦ ap (node l o) q | false ↦ ap (λ v. fresh (joined o l v) n) p ]
 
   -- one more operator above a spine without a value
@@ -76,5 +77,6 @@ module _ {T : Type 0} (build : Builder T) where
   pub enter-held : (n : Link T) (l : Option (Place T)) (o : Operator) (r : Spine T) → holds o n.operator ≡ true → enter n (node l o r) ≡ node l o (enter n r)
   enter-held n l o r e = ap (λ t. cond t (node l o (enter n r)) (fresh (joined o l (value r)) n)) e
 
-  pub enter-free : (n : Link T) (l : Option (Place T)) (o : Operator) (r : Spine T) → holds o n.operator ≡ false → enter n (node l o r) ≡ fresh (value (node l o r)) n
+  pub enter-free : (n : Link T) (l : Option (Place T)) (o : Operator) (r : Spine T) → holds o n.operator ≡ false
+      → enter n (node l o r) ≡ fresh (value (node l o r)) n
   enter-free n l o r e = ap (λ t. cond t (node l o (enter n r)) (fresh (joined o l (value r)) n)) e

@@ -1,5 +1,31 @@
 -- The tree by the weakest operator is the value of the spine.
-use Rattle.std.proofs.Common.{◌≡◌, ℕ, zero, suc, ◌+◌, ◌<◌, ◌≤◌, Bool, true, false, cond, ◌⊎◌, inl, inr, List, [], ◌∷◌, ◌++◌, length, refl, ap, sym, ◌∙◌, subst, arith}
+use Rattle.std.proofs.Common.{
+  ◌≡◌,
+  ℕ,
+  zero,
+  suc,
+  ◌+◌,
+  ◌<◌,
+  ◌≤◌,
+  Bool,
+  true,
+  false,
+  cond,
+  ◌⊎◌,
+  inl,
+  inr,
+  List,
+  [],
+  ◌∷◌,
+  ◌++◌,
+  length,
+  refl,
+  ap,
+  sym,
+  ◌∙◌,
+  subst,
+  arith,
+}
 use Rattle.std.specs.Prelude.{Option, Some, None, option_and_then, ◌&&◌, nat_eq, nat_lt}
 use Rattle.std.proofs.lemmas.Bool.Decides.{nat_tests}
 use Rattle.plai_reader.specs.declared.operator.OpKind.{OpKind}
@@ -62,7 +88,8 @@ module _ {T : Type 0} (build : Builder T) where
   Held-below w [] h = tt
   Held-below w (l ∷ ls) h = (test_below w.priority l.operator.priority (leans_right w.kind) h.0, Held-below w ls h.1)
 
-  enter_all-held : (v : Option (Place T)) (w : Operator) (s : Spine T) (ls : List (Link T)) → Held w ls → enter_all build (node v w s) ls ≡ node v w (enter_all build s ls)
+  enter_all-held : (v : Option (Place T)) (w : Operator) (s : Spine T) (ls : List (Link T)) → Held w ls
+      → enter_all build (node v w s) ls ≡ node v w (enter_all build s ls)
   enter_all-held v w s [] h = refl
   enter_all-held v w s (l ∷ ls) h = ap (λ t. enter_all build t ls) (enter-held build l v w s h.0) ∙ enter_all-held v w (enter build l s) ls h.1
 
@@ -79,7 +106,8 @@ module _ {T : Type 0} (build : Builder T) where
   RootBelow-enter : (g : ℕ) (n : Link T) (s : Spine T) → RootBelow g s → n.operator.priority < g → RootBelow g (enter build n s)
   RootBelow-enter g n (leaf p) h e = e
   RootBelow-enter g n (node v o r) h e =
-      elim (holds o n.operator) as (λ b. RootBelow g (cond b (node v o (enter build n r)) (fresh build (joined build o v (value build r)) n))) [ true ↦ h | false ↦ e ]
+      elim (holds o n.operator) as (λ b. RootBelow g (cond b (node v o (enter build n r)) (fresh build (joined build o v (value build r)) n)))
+      [ true ↦ h | false ↦ e ]
 
   -- the tree of a cut, whose left side begins with the spine
   abbrev pub parts : Spine T → Cut T → Option (Place T)
@@ -89,7 +117,8 @@ module _ {T : Type 0} (build : Builder T) where
   here l ls = record { before = []; link = l; after = ls }
 
   -- at an operator that the root doesn't hold, and that holds all that follow
-  cut-here : (s : Spine T) (l : Link T) (ls : List (Link T)) → enter build l s ≡ fresh build (value build s) l → Held l.operator ls → value build (enter_all build s (l ∷ ls)) ≡ parts s (here l ls)
+  cut-here : (s : Spine T) (l : Link T) (ls : List (Link T)) → enter build l s ≡ fresh build (value build s) l → Held l.operator ls
+      → value build (enter_all build s (l ∷ ls)) ≡ parts s (here l ls)
   cut-here s l ls e h = ap (λ t. value build (enter_all build t ls)) e ∙ ap (value build) (enter_all-held (value build s) l.operator (leaf l.place) ls h)
 
   -- the leftmost
@@ -111,7 +140,8 @@ module _ {T : Type 0} (build : Builder T) where
   left-is : (g : ℕ) (s : Spine T) (ls : List (Link T)) → RootBelow g s → greatest ls ≤ g → LeftClaim g s ls (leftmost g ls)
   left-is g s [] r m = tt
   left-is g s (l ∷ ls) r m =
-      let goal : Bool → Type 0 = λ b. nat_eq l.operator.priority g ≡ b → LeftClaim g s (l ∷ ls) (cond b (Some (here l ls)) (option_and_then (λ c. Some (later l c)) (leftmost g ls))) in
+      let goal : Bool → Type 0 = λ b. nat_eq l.operator.priority g ≡ b
+      → LeftClaim g s (l ∷ ls) (cond b (Some (here l ls)) (option_and_then (λ c. Some (later l c)) (leftmost g ls))) in
       let split : goal (nat_eq l.operator.priority g) = elim (nat_eq l.operator.priority g) as goal [
         | true ↦ λ e k.
             let p = eq_true l.operator.priority g e in
@@ -204,7 +234,8 @@ module _ {T : Type 0} (build : Builder T) where
   Settled-enter : (g : ℕ) (l : Link T) (s : Spine T) → Settled g s → l.operator.priority ≤ g → Settled g (enter build l s)
   Settled-enter g l (leaf p) h e = absurd h
   Settled-enter g l (node v o r) h e =
-      let goal : Bool → Type 0 = λ b. holds o l.operator ≡ b → Settled g (cond b (node v o (enter build l r)) (fresh build (joined build o v (value build r)) l)) in
+      let goal : Bool → Type 0 = λ b. holds o l.operator ≡ b
+      → Settled g (cond b (node v o (enter build l r)) (fresh build (joined build o v (value build r)) l)) in
       let split : goal (holds o l.operator) = elim (holds o l.operator) as goal [
         | true ↦ λ k. h
         | false ↦ λ k.
@@ -231,7 +262,8 @@ module _ {T : Type 0} (build : Builder T) where
       ]
 
   -- one more link in front, at which the cut may stand
-  right-later : (g : ℕ) (s : Spine T) (l : Link T) (ls : List (Link T)) (o : Option (Cut T)) (b : Bool) → nat_eq l.operator.priority g ≡ b → l.operator.priority ≤ g
+  right-later : (g : ℕ) (s : Spine T) (l : Link T) (ls : List (Link T)) (o : Option (Cut T)) (b : Bool) → nat_eq l.operator.priority g ≡ b
+      → l.operator.priority ≤ g
       → RightClaim g (enter build l s) ls o
       → (l.operator.priority ≡ g → AllBelow g ls → value build (enter_all build s (l ∷ ls)) ≡ parts s (here l ls))
       → RightClaim g s (l ∷ ls) (or_else (option_and_then (λ c. Some (later l c)) o) (cond b (Some (here l ls)) None))
@@ -325,7 +357,8 @@ module _ {T : Type 0} (build : Builder T) where
       → WeakestClaim s (l ∷ ls) (option_and_then (λ c. cond (leans_right c.link.operator.kind) (Some c) (rightmost (greatest (l ∷ ls)) (l ∷ ls))) o)
   weakest-claim s l ls None h k right = some_below l ls h
   weakest-claim s l ls (Some c) h k right =
-      let goal : Bool → Type 0 = λ b. leans_right c.link.operator.kind ≡ b → WeakestClaim s (l ∷ ls) (cond b (Some c) (rightmost (greatest (l ∷ ls)) (l ∷ ls))) in
+      let goal : Bool → Type 0 = λ b. leans_right c.link.operator.kind ≡ b
+      → WeakestClaim s (l ∷ ls) (cond b (Some c) (rightmost (greatest (l ∷ ls)) (l ∷ ls))) in
       let split : goal (leans_right c.link.operator.kind) = elim (leans_right c.link.operator.kind) as goal [ true ↦ λ e. (h e, k) | false ↦ λ e. right e ] in
       split refl
 
@@ -351,7 +384,8 @@ module _ {T : Type 0} (build : Builder T) where
       ∙ sym claim.0
 
   -- For any bound that is large enough the tree is the value of the spine.
-  pub tree_within-is : (n : ℕ) (first : Place T) (ls : List (Link T)) → length ls ≤ n → tree_within build n first ls ≡ value build (enter_all build (leaf first) ls)
+  pub tree_within-is : (n : ℕ) (first : Place T) (ls : List (Link T)) → length ls ≤ n
+      → tree_within build n first ls ≡ value build (enter_all build (leaf first) ls)
   tree_within-is n first [] h = refl
   tree_within-is zero first (l ∷ ls) h = absurd (omega arith)
   tree_within-is (suc n) first (l ∷ ls) h =

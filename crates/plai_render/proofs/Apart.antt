@@ -17,7 +17,8 @@ tells_apart : (row later : PlainRow) → HasGroundnessCall row → HasGroundness
 tells_apart row later h k differ same =
     let n : row.name.pred.arity ≡ later.name.pred.arity = ap (λ (p : PredKey). p.arity) same.0 in
     let calls : row.name.call ≡ later.name.call =
-    patterns_differ row.name.pred.arity row.name.call later.name.call (omega (arith, h.0)) h.1 (subst (λ a. IsGroundness a later.name.call) (sym n) k.1) same.1 in
+    patterns_differ row.name.pred.arity row.name.call later.name.call (omega (arith, h.0)) h.1
+    (subst (λ a. IsGroundness a later.name.call) (sym n) k.1) same.1 in
     differ (same_name row.name.pred later.name.pred row.name.call later.name.call same.0 calls)
 
 all_apart : (row : PlainRow) (rows : List PlainRow) → HasGroundnessCall row → All HasGroundnessCall rows → All (λ later. row.name ≢ later.name) rows

@@ -61,7 +61,8 @@ up_rows [] u = tt
 up_rows (row ∷ rows) u = (below_rows row rows u.0, up_rows rows u.1)
 
 -- texts in another order that are up
-pub texts_in_order : (old new : List TextRow) → IsPermutation old new → IsUp text_row_order new → (table : List PlainRow) → AreTextsOf table old → AreTextsInOrder table new
+pub texts_in_order : (old new : List TextRow) → IsPermutation old new → IsUp text_row_order new → (table : List PlainRow) → AreTextsOf table old
+    → AreTextsInOrder table new
 texts_in_order old new p u table are =
     let l = lifted text_of table new (subst (λ (o : List TextRow). IsPermutation o new) (sym are) p) in
     let up : IsUp row_order l.items = up_rows l.items (subst (IsUp text_row_order) (sym l.made) u) in

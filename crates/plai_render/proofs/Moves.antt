@@ -1,11 +1,21 @@
 -- Rows that are moved to another list, sorted there and moved back.
 use Rattle.std.proofs.Common.{◌≡◌, List, [], ◌∷◌, ◌++◌, map, reverse, sym, ap, ◌∙◌, subst, IsPermutation}
 use Rattle.std.proofs.lemmas.List.{map-append, reverse-reverse}
-use Rattle.std.proofs.lemmas.List.Sorted.{IsPermutation-trans, IsPermutation-to_front, IsPermutation-pop_more, IsPermutation-append_left, IsPermutation-append_right, IsPermutation-append_comm, IsPermutation-reverse, IsPermutation-map}
+use Rattle.std.proofs.lemmas.List.Sorted.{
+  IsPermutation-trans,
+  IsPermutation-to_front,
+  IsPermutation-pop_more,
+  IsPermutation-append_left,
+  IsPermutation-append_right,
+  IsPermutation-append_comm,
+  IsPermutation-reverse,
+  IsPermutation-map,
+}
 
 module _ {X Y : Type 0} (f : Y → X) where
   -- the last of what is left goes to the end of what is moved
-  pub one_moved : (xs : List X) (ks next : List Y) (left rest : List X) (k : Y) → IsPermutation xs (map f ks ++ left) → left ≡ rest ++ f k ∷ [] → next ≡ ks ++ k ∷ []
+  pub one_moved : (xs : List X) (ks next : List Y) (left rest : List X) (k : Y) → IsPermutation xs (map f ks ++ left) → left ≡ rest ++ f k ∷ []
+      → next ≡ ks ++ k ∷ []
       → IsPermutation xs (map f next ++ rest)
   one_moved xs ks next left rest k p e n =
       let here : map f ks ++ f k ∷ [] ≡ map f next = sym (map-append f ks (k ∷ [])) ∙ ap (map f) (sym n) in

@@ -26,7 +26,8 @@ row_total = on_total (λ (r : PlainRow). r.name) name_total
 not_before : (row later : PlainRow) → is_gt (row_order row later) ≡ false → IsBefore later.name row.name → ⊥
 not_before row later n b = false≢true (sym n ∙ ap is_gt (row_total.antisymm row later ∙ ap ordering_reverse b))
 
-none_before : (row : PlainRow) (rows : List PlainRow) → AllByRecursion (λ later. is_gt (row_order row later) ≡ false) rows → All (λ later. IsBefore later.name row.name → ⊥) rows
+none_before : (row : PlainRow) (rows : List PlainRow) → AllByRecursion (λ later. is_gt (row_order row later) ≡ false) rows
+    → All (λ later. IsBefore later.name row.name → ⊥) rows
 none_before row [] h = All-nil (λ later. IsBefore later.name row.name → ⊥)
 none_before row (q ∷ qs) h = All-cons (λ later. IsBefore later.name row.name → ⊥) q qs (not_before row q h.0) (none_before row qs h.1)
 
@@ -41,10 +42,13 @@ here = once row_order row_total
 here_is : (x y : PlainRow) (o : Ordering) → row_order x y ≡ o → here x y ≡ cond (is_eq o) 1 0
 here_is x y o e = ap (λ (r : Ordering). cond (is_eq r) 1 0) e
 
-none_tied : (x row : PlainRow) (rows : List PlainRow) → row_order x row ≡ Equal → All (λ later. HaveSameText row.name later.name → ⊥) rows → sum_by (here x) rows ≡ 0
+none_tied : (x row : PlainRow) (rows : List PlainRow) → row_order x row ≡ Equal → All (λ later. HaveSameText row.name later.name → ⊥) rows
+    → sum_by (here x) rows ≡ 0
 none_tied x row [] e h = refl
 none_tied x row (q ∷ qs) e h =
-    let zero_here : here x q ≡ 0 = by_ordering (row_order x q) (λ l. here_is x q Less l) (λ t. absurd (All-head (λ later. HaveSameText row.name later.name → ⊥) q qs h (names_tie row.name q.name (sym (row_total.congr x row q e) ∙ t)))) (λ g. here_is x q Greater g) in
+    let zero_here : here x q ≡ 0 = by_ordering (row_order x q) (λ l. here_is x q Less l)
+    (λ t. absurd (All-head (λ later. HaveSameText row.name later.name → ⊥) q qs h (names_tie row.name q.name (sym (row_total.congr x row q e) ∙ t))))
+    (λ g. here_is x q Greater g) in
     omega (arith, sum_by-cons (here x) q qs, zero_here, none_tied x row qs e (All-tail (λ later. HaveSameText row.name later.name → ⊥) q qs h))
 
 apart_once : (x : PlainRow) (rows : List PlainRow) → AreApart rows → sum_by (here x) rows ≤ 1
@@ -56,7 +60,8 @@ apart_once x (row ∷ rows) h =
     (λ e. omega (arith, split, here_is x row Equal e, none_tied x row rows e h.0))
     (λ g. omega (arith, split, here_is x row Greater g, apart_once x rows h.1))
 
-all_before : (row : PlainRow) (rows : List PlainRow) → AllByRecursion (λ later. is_gt (row_order row later) ≡ false) rows → sum_by (here row) rows ≡ 0 → All (λ later. IsBefore row.name later.name) rows
+all_before : (row : PlainRow) (rows : List PlainRow) → AllByRecursion (λ later. is_gt (row_order row later) ≡ false) rows → sum_by (here row) rows ≡ 0
+    → All (λ later. IsBefore row.name later.name) rows
 all_before row [] h e = All-nil (λ later. IsBefore row.name later.name)
 all_before row (q ∷ qs) h e =
     let split = sum_by-cons (here row) q qs in

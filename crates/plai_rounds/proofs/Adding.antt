@@ -20,28 +20,33 @@ module _ (V : Type 0) (value_of : V → Abs) (limit : ℕ) (names : List (Name P
   adds_one rows new key true i (e, absent, room) a = subst (Adds V value_of limit names old) (sym e) (Next key a i absent room)
 
 -- names that are there stay
-pub stays : (V : Type 0) (value_of : V → Abs) (limit : ℕ) (rows new : List (Key V × Option V)) (key : Key V) (added : Bool) → IsAdded V value_of limit key rows new added
+pub stays : (V : Type 0) (value_of : V → Abs) (limit : ℕ) (rows new : List (Key V × Option V)) (key : Key V) (added : Bool)
+    → IsAdded V value_of limit key rows new added
     → (x : Name PredKey Abs) → IsIn x (names_in value_of rows) → IsIn x (names_in value_of new)
 stays V value_of limit rows new key false (e, there) x i = subst (λ n. IsIn x (names_in value_of n)) (sym e) i
 stays V value_of limit rows new key true (e, absent, room) x i =
     subst (λ n. IsIn x (names_in value_of n)) (sym e)
     (subst (IsIn x) (sym (map_push (λ (r : Key V × Option V). key_name value_of r.0) rows (key, None))) (in_left (names_in value_of rows) _ x i))
 
-pub comes : (V : Type 0) (value_of : V → Abs) (limit : ℕ) (rows new : List (Key V × Option V)) (key : Key V) (added : Bool) → IsAdded V value_of limit key rows new added
+pub comes : (V : Type 0) (value_of : V → Abs) (limit : ℕ) (rows new : List (Key V × Option V)) (key : Key V) (added : Bool)
+    → IsAdded V value_of limit key rows new added
     → IsIn (key_name value_of key) (names_in value_of new)
 comes V value_of limit rows new key false (e, there) = subst (λ n. IsIn (key_name value_of key) (names_in value_of n)) (sym e) there
 comes V value_of limit rows new key true (e, absent, room) =
     subst (λ n. IsIn (key_name value_of key) (names_in value_of n)) (sym e)
-    (subst (IsIn (key_name value_of key)) (sym (map_push (λ (r : Key V × Option V). key_name value_of r.0) rows (key, None))) (in_last (names_in value_of rows) (key_name value_of key)))
+    (subst (IsIn (key_name value_of key)) (sym (map_push (λ (r : Key V × Option V). key_name value_of r.0) rows (key, None)))
+    (in_last (names_in value_of rows) (key_name value_of key)))
 
-pub longer : (V : Type 0) (value_of : V → Abs) (limit : ℕ) (rows new : List (Key V × Option V)) (key : Key V) (added : Bool) → IsAdded V value_of limit key rows new added
+pub longer : (V : Type 0) (value_of : V → Abs) (limit : ℕ) (rows new : List (Key V × Option V)) (key : Key V) (added : Bool)
+    → IsAdded V value_of limit key rows new added
     → (length rows ≤ length new) × (added ≡ true → length rows < length new)
 longer V value_of limit rows new key false (e, there) = let k : length new ≡ length rows = ap length e in (omega arith, λ t. cc)
 longer V value_of limit rows new key true (e, absent, room) =
     let k : length new ≡ length rows + 1 = ap length e ∙ length_push rows (key, None) in (omega arith, λ t. omega arith)
 
 -- what has come so far and the next key
-pub all_more : (V : Type 0) (value_of : V → Abs) (limit : ℕ) (rows new : List (Key V × Option V)) (key : Key V) (added : Bool) → IsAdded V value_of limit key rows new added
+pub all_more : (V : Type 0) (value_of : V → Abs) (limit : ℕ) (rows new : List (Key V × Option V)) (key : Key V) (added : Bool)
+    → IsAdded V value_of limit key rows new added
     → (keys : List (Key V)) → ((x : Name PredKey Abs) → IsIn x (map (key_name value_of) keys) → IsIn x (names_in value_of rows))
     → (x : Name PredKey Abs) → IsIn x (map (key_name value_of) (keys ++ key ∷ [])) → IsIn x (names_in value_of new)
 all_more V value_of limit rows new key added is keys h x i =
@@ -50,15 +55,18 @@ all_more V value_of limit rows new key added is keys h x i =
     (λ y j. stays V value_of limit rows new key added is y (h y j)) (comes V value_of limit rows new key added is)
 
 -- why adding stops at a key
-pub stops : (V : Type 0) (value_of : V → Abs) (limit : ℕ) (names : List (Name PredKey Abs)) (old rows : List (Key V × Option V)) (key : Key V) (fail : AnalyseFail)
-    → Adds V value_of limit names old rows → IsIn (key_name value_of key) names → HasNoRoom V value_of limit key rows fail → StopsAdding V value_of limit names old fail
+pub stops : (V : Type 0) (value_of : V → Abs) (limit : ℕ) (names : List (Name PredKey Abs)) (old rows : List (Key V × Option V)) (key : Key V)
+    (fail : AnalyseFail)
+    → Adds V value_of limit names old rows → IsIn (key_name value_of key) names → HasNoRoom V value_of limit key rows fail
+    → StopsAdding V value_of limit names old fail
 stops V value_of limit names old rows key Memory a i h = tt
 stops V value_of limit names old rows key (Rows n) a i (e, absent, full) =
     (e, record { rows = rows; adds = a; name = key_name value_of key; is_name = i; absent = absent; full = full })
 stops V value_of limit names old rows key (Groups row clause literal place) a i h = absurd h
 
 -- adding takes nothing away
-pub adds_longer : (V : Type 0) (value_of : V → Abs) (limit : ℕ) (names : List (Name PredKey Abs)) (old : List (Key V × Option V)) {new : List (Key V × Option V)} → Adds V value_of limit names old new
+pub adds_longer : (V : Type 0) (value_of : V → Abs) (limit : ℕ) (names : List (Name PredKey Abs)) (old : List (Key V × Option V))
+    {new : List (Key V × Option V)} → Adds V value_of limit names old new
     → length old ≤ length new
 adds_longer V value_of limit names old Same = omega arith
 adds_longer V value_of limit names old (Next {rows = rows} key a i absent room) =

@@ -56,7 +56,8 @@ module _ (p : PlainDomain) (laws : IsLawful p) (program : ProgramView) (good : I
   asked_near rows seen made made_seen x ask =
       ((made_low (as_domain p) (as_program p program) theory_laws (Add x made made_seen ask)).each (record { name = x; answer = None }) (last rows)).near
     where
-      last : (rows : List (Row (as_domain p))) → IsIn (let r : Row (as_domain p) = record { name = x; answer = None } in r) (rows ++ record { name = x; answer = None } ∷ [])
+      last : (rows : List (Row (as_domain p)))
+          → IsIn (let r : Row (as_domain p) = record { name = x; answer = None } in r) (rows ++ record { name = x; answer = None } ∷ [])
       last [] = inl refl
       last (r ∷ rows) = inr (last rows)
 
@@ -70,17 +71,23 @@ module _ (p : PlainDomain) (laws : IsLawful p) (program : ProgramView) (good : I
     asked = asked;
     below = λ table least x i.
         let (rows, made, ask) = asked x i in
-        near_row (as_domain p) (as_program p program) theory_laws (before p) (strict p) least.0 (map (row_of p) table) least.1 x (asked_near rows rows made made x ask);
+        near_row (as_domain p) (as_program p program) theory_laws (before p) (strict p) least.0 (map (row_of p) table) least.1 x
+        (asked_near rows rows made made x ask);
   }
 
   -- so is the name of each row that rounds make
-  made_asked : (rows : List (Row (as_domain p))) → IsMade (as_domain p) (as_program p program) rows → (r : Row (as_domain p)) → IsIn r rows → IsAskedFor p program r.name
+  made_asked : (rows : List (Row (as_domain p))) → IsMade (as_domain p) (as_program p program) rows → (r : Row (as_domain p)) → IsIn r rows
+      → IsAskedFor p program r.name
   made_asked rows Begin r i = absurd i
-  made_asked rows (Add {rows = old} {seen = seen} x made made_seen ask) r i = in_push_row old (record { name = x; answer = None }) r i (λ j. made_asked old made r j) (λ e. subst (λ (q : Row (as_domain p)). IsAskedFor p program q.name) e (seen, made_seen, ask))
+  made_asked rows (Add {rows = old} {seen = seen} x made made_seen ask) r i =
+      in_push_row old (record { name = x; answer = None }) r i (λ j. made_asked old made r j)
+      (λ e. subst (λ (q : Row (as_domain p)). IsAskedFor p program q.name) e (seen, made_seen, ask))
   made_asked rows (Raise {rows = old} {seen = seen} x c made made_seen inside) r i =
-      map_in (λ (q : Row (as_domain p)). IsAskedFor p program q.name) (after_raising (as_domain p) x (answer_of (as_domain p) (source_of (as_domain p) seen) c x.call)) old r i (λ q j. made_asked old made q j)
+      map_in (λ (q : Row (as_domain p)). IsAskedFor p program q.name)
+      (after_raising (as_domain p) x (answer_of (as_domain p) (source_of (as_domain p) seen) c x.call)) old r i (λ q j. made_asked old made q j)
 
-  pub name_asked : (rows : List (Row (as_domain p))) → IsMade (as_domain p) (as_program p program) rows → (x : Name PredKey Abs) → IsIn x (names_of p rows) → IsAskedFor p program x
+  pub name_asked : (rows : List (Row (as_domain p))) → IsMade (as_domain p) (as_program p program) rows → (x : Name PredKey Abs) → IsIn x (names_of p rows)
+      → IsAskedFor p program x
   name_asked rows made x i = let (r, j, e) = has_name p rows x i in subst (IsAskedFor p program) e (made_asked rows made r j)
 
   -- Theorem: adding names that are asked for stops only where there are too many.
@@ -101,15 +108,18 @@ module _ (p : PlainDomain) (laws : IsLawful p) (program : ProgramView) (good : I
             (λ x i. ask x full mid i),
       )
     where
-      ask : (x : Name PredKey Abs) (full : IsFull V value_of limit names old) → IsMaking p program limit (rows_of value_of p full.rows) → IsIn x (full.name ∷ names_of p (rows_of value_of p full.rows))
+      ask : (x : Name PredKey Abs) (full : IsFull V value_of limit names old) → IsMaking p program limit (rows_of value_of p full.rows)
+          → IsIn x (full.name ∷ names_of p (rows_of value_of p full.rows))
           → IsAskedFor p program x
       ask x full mid (inl e) = subst (IsAskedFor p program) e (seen, made, asked full.name full.is_name)
       ask x full mid (inr i) = name_asked (rows_of value_of p full.rows) mid.made x i
   adding_cause V value_of names old seen made asked making (Groups row clause literal place) stop = absurd stop
 
   -- Theorem: an evaluation of a row that rounds make forms a set of too many groups only where the program does.
-  pub over_cause : (rows : List (Row (as_domain p))) → IsMade (as_domain p) (as_program p program) rows → (x : Name PredKey Abs) → IsNear (as_domain p) (as_program p program) x
-      → IsIn x (names_of p rows) → (number : ℕ) (clause : Clause) → IsClauseOf program x.pred number clause → (fail : AnalyseFail) → TellsOver p rows x number clause fail → HasCause p program limit fail
+  pub over_cause : (rows : List (Row (as_domain p))) → IsMade (as_domain p) (as_program p program) rows → (x : Name PredKey Abs)
+      → IsNear (as_domain p) (as_program p program) x
+      → IsIn x (names_of p rows) → (number : ℕ) (clause : Clause) → IsClauseOf program x.pred number clause → (fail : AnalyseFail)
+      → TellsOver p rows x number clause fail → HasCause p program limit fail
   over_cause rows made x near here number clause is Memory told = tt
   over_cause rows made x near here number clause is (Rows n) told = absurd told
   over_cause rows made x near here number clause is (Groups row at literal place) (same, one, over) = (
@@ -122,5 +132,6 @@ module _ (p : PlainDomain) (laws : IsLawful p) (program : ProgramView) (good : I
   )
 
 -- a clause of a number is one of the predicate's
-pub in_clauses : (program : ProgramView) (pred : PredKey) (number : ℕ) (clause : Clause) → IsClauseOf program pred number clause → IsIn clause (clauses_of program pred)
+pub in_clauses : (program : ProgramView) (pred : PredKey) (number : ℕ) (clause : Clause)
+    → IsClauseOf program pred number clause → IsIn clause (clauses_of program pred)
 in_clauses program pred number clause is = get_in (clauses_of program pred) (number - 1) clause is.1

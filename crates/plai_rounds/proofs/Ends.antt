@@ -39,19 +39,23 @@ module _ (p : PlainDomain) (laws : IsLawful p) (program : ProgramView) (good : I
     entries = λ x i. has_name p rows x (entries x i);
     calls = λ r i c j x k. (quiet_at r i c j).calls x k;
     answers = λ r i c j.
-        let own : source_of (as_domain p) rows r.name.pred r.name.call ≡ r.answer = lookup_row (as_domain p) (as_program p program) theory_laws rows making.distinct r i in
+        let own : source_of (as_domain p) rows r.name.pred r.name.call ≡ r.answer =
+        lookup_row (as_domain p) (as_program p program) theory_laws rows making.distinct r i in
         unchanged_covers (as_domain p) (as_program p program) theory_laws rows making.made r i c j
-        (subst (λ (o : Option Abs). join_of (as_domain p) o (answer_of (as_domain p) (source_of (as_domain p) rows) c r.name.call) ≡ o) own (quiet_at r i c j).answer);
+        (subst (λ (o : Option Abs). join_of (as_domain p) o (answer_of (as_domain p) (source_of (as_domain p) rows) c r.name.call) ≡ o) own
+        (quiet_at r i c j).answer);
   }
 
   pub settled : IsSettled (as_domain p) (as_program p program) (source_of (as_domain p) rows)
   settled k x r c i =
-      (closed_at (as_domain p) (as_program p program) theory_laws rows closed).answers x.pred x.call (reach_rows (as_domain p) (as_program p program) theory_laws rows closed r) c i
+      (closed_at (as_domain p) (as_program p program) theory_laws rows closed).answers x.pred x.call
+      (reach_rows (as_domain p) (as_program p program) theory_laws rows closed r) c i
 
   -- Theorem: the program forms no set of too many groups.
   pub not_over : IsOver p program → ⊥
   not_over over =
-      let (x, (k, r), (c, i, o)) = over_settled (as_domain p) (as_program p program) theory_laws (as_limits p) (limits_at p laws program good) (source_of (as_domain p) rows)
+      let (x, (k, r), (c, i, o)) = over_settled (as_domain p) (as_program p program) theory_laws (as_limits p) (limits_at p laws program good)
+      (source_of (as_domain p) rows)
       (from_below (as_domain p) (as_program p program) theory_laws rows (made_low (as_domain p) (as_program p program) theory_laws making.made)) settled over in
       let (q, j, e) = reach_rows (as_domain p) (as_program p program) theory_laws rows closed r in
       (quiet x (name_in p rows x (q, j, e)) c i).within o

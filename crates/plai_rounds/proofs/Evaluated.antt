@@ -36,5 +36,6 @@ module _ (p : PlainDomain) (rows : List (Row (as_domain p))) (clause : Clause) (
   pub not_over : over_of p (answers_of p rows) clause call ≡ None → IsOverAt (as_domain p) (as_limits p) (source_of (as_domain p) rows) clause call → ⊥
   not_over e o = let h : IsSome {T = ℕ × ℕ} None = subst IsSome e ((over_is p (answers_of p rows) clause call).1 o) in cc
 
-  pub is_over : (at : ℕ × ℕ) → over_of p (answers_of p rows) clause call ≡ Some at → IsOverAt (as_domain p) (as_limits p) (source_of (as_domain p) rows) clause call
+  pub is_over : (at : ℕ × ℕ) → over_of p (answers_of p rows) clause call ≡ Some at
+      → IsOverAt (as_domain p) (as_limits p) (source_of (as_domain p) rows) clause call
   is_over at e = (over_is p (answers_of p rows) clause call).0 (subst IsSome (sym e) refl)

@@ -41,7 +41,8 @@ module _ (d : Domain) (g : Program d) (laws : IsLawful d g) (rows : List (Row d)
       left_at d g laws r.name.pred (answer_of d (source_of d rows) c r.name.call) _
       (answer_low d g laws (source_of d rows) (from_below d g laws rows (made_low d g laws made)) r.name (call_fits r i) c j)
 
-module _ (p : PlainDomain) (laws : domain.IsLawful p) (program : ProgramView) (good : IsWellFormed program) (rows : List (Row (as_domain p))) (made : IsMade (as_domain p) (as_program p program) rows) where
+module _ (p : PlainDomain) (laws : domain.IsLawful p) (program : ProgramView) (good : IsWellFormed program) (rows : List (Row (as_domain p)))
+    (made : IsMade (as_domain p) (as_program p program) rows) where
   pub answers_fit : AnswersFit p (answers_of p rows)
   answers_fit = record {
     fit = λ name answer is told.
@@ -50,7 +51,8 @@ module _ (p : PlainDomain) (laws : domain.IsLawful p) (program : ProgramView) (g
   }
 
 -- an answer that is a value of few arguments
-pub small_answer : {B : Type 0} (p : PlainDomain) (n : ℕ) → n ≤ most_arguments → (seen : B → Abs) (result : Option B) (o : Option Abs) → option_map seen result ≡ o
+pub small_answer : {B : Type 0} (p : PlainDomain) (n : ℕ) → n ≤ most_arguments → (seen : B → Abs) (result : Option B) (o : Option Abs)
+    → option_map seen result ≡ o
     → ((a : Abs) → o ≡ Some a → IsValue p n a) → IfSome result (λ value. IsSmallValue p (seen value))
 small_answer p n few seen None o e fit = tt
 small_answer p n few seen (Some b) o e fit = (n, few, fit (seen b) (sym e))

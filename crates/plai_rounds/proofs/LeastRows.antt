@@ -1,5 +1,37 @@
 -- The rows of the names that are reached, in order, are the least table.
-use Rattle.std.proofs.Common.{◌≡◌, ◌≢◌, ℕ, zero, suc, ◌+◌, ◌<◌, ◌≤◌, All, Contains, List, [], ◌∷◌, ◌++◌, map, take, length, get_or, slice_get, unwrap_or, Option, Some, None, sym, refl, ap, ◌∙◌, subst, inl, inr, arith}
+use Rattle.std.proofs.Common.{
+  ◌≡◌,
+  ◌≢◌,
+  ℕ,
+  zero,
+  suc,
+  ◌+◌,
+  ◌<◌,
+  ◌≤◌,
+  All,
+  Contains,
+  List,
+  [],
+  ◌∷◌,
+  ◌++◌,
+  map,
+  take,
+  length,
+  get_or,
+  slice_get,
+  unwrap_or,
+  Option,
+  Some,
+  None,
+  sym,
+  refl,
+  ap,
+  ◌∙◌,
+  subst,
+  inl,
+  inr,
+  arith,
+}
 use Rattle.std.specs.List.{AllByRecursion}
 use Rattle.std.specs.List.Sorted.{IsPermutation}
 use Rattle.std.proofs.lemmas.List.{take_more}
@@ -49,7 +81,8 @@ read_of [] i x e = cc
 read_of (y ∷ xs) zero x e = let same : y ≡ x = cc in (omega arith, same)
 read_of (y ∷ xs) (suc i) x e = let (h, f) = read_of xs i x e in (omega arith, f)
 
-pub texts_more : (p : PlainDomain) (rows : List (Row (as_domain p))) (names : List (Name PredKey Abs)) (i : ℕ) (x : Name PredKey Abs) (texts new : List TextRow) (text : TextRow)
+pub texts_more : (p : PlainDomain) (rows : List (Row (as_domain p))) (names : List (Name PredKey Abs)) (i : ℕ) (x : Name PredKey Abs)
+    (texts new : List TextRow) (text : TextRow)
     → slice_get names i ≡ Some x → AreTextsOf (plain_rows p rows (take i names)) texts → text ≡ text_of (plain_at p rows x)
     → new ≡ texts ++ text ∷ [] → AreTextsOf (plain_rows p rows (take (i + 1) names)) new
 texts_more p rows names i x texts new text at so_far is pushed =
@@ -99,11 +132,13 @@ narrow_answer p printed n few (Some a) h = let e : arity_of a ≡ n = printed.ar
 ordered : (p : PlainDomain) (rows : List PlainRow) → AreInOrder rows → IsOrdered (as_domain p) (before p) (map (row_of p) rows)
 ordered p [] h = tt
 ordered p (r ∷ rows) h = (
-  λ q i. map_in (λ (s : Row (as_domain p)). before p (row_of p r).name s.name) (row_of p) rows q i (λ s j. of_all (λ later. IsBefore r.name later.name) rows h.0 s j),
+  λ q i. map_in (λ (s : Row (as_domain p)). before p (row_of p r).name s.name) (row_of p) rows q i
+      (λ s j. of_all (λ later. IsBefore r.name later.name) rows h.0 s j),
   ordered p rows h.1,
 )
 
-module _ (p : PlainDomain) (laws : IsLawful p) (printed : IsPrinted p) (program : ProgramView) (good : IsWellFormed program) (limit : ℕ) (rows : List (Row (as_domain p)))
+module _ (p : PlainDomain) (laws : IsLawful p) (printed : IsPrinted p) (program : ProgramView) (good : IsWellFormed program) (limit : ℕ)
+    (rows : List (Row (as_domain p)))
     (done : IsDone p program limit rows) where
   pub few_arguments : (x : Name PredKey Abs) → IsReached p laws program good limit rows done x → x.pred.arity ≤ 16
   few_arguments x (k, r) = reached_narrow p (source_of (as_domain p) rows) program good r
@@ -118,16 +153,20 @@ module _ (p : PlainDomain) (laws : IsLawful p) (printed : IsPrinted p) (program 
       (omega arith, narrow_answer p printed x.pred.arity few (answers_of p rows (row_name x)) (answer_fits x))
 
   -- names with equal texts are equal
-  one_text : (x y : Name PredKey Abs) → IsReached p laws program good limit rows done x → IsReached p laws program good limit rows done y → HaveSameText (row_name x) (row_name y) → x ≡ y
+  one_text : (x y : Name PredKey Abs) → IsReached p laws program good limit rows done x → IsReached p laws program good limit rows done y
+      → HaveSameText (row_name x) (row_name y) → x ≡ y
   one_text x y r s (same, text) =
-      let v : IsValue p x.pred.arity y.call = subst (λ (k : PredKey). IsValue p k.arity y.call) (sym same) (reached_call p laws program good limit rows done y s) in
+      let v : IsValue p x.pred.arity y.call = subst (λ (k : PredKey). IsValue p k.arity y.call) (sym same)
+      (reached_call p laws program good limit rows done y s) in
       let c : x.call ≡ y.call = printed.apart x.pred.arity x.call y.call (few_arguments x r) (reached_call p laws program good limit rows done x r) v text in
       λ i. record { pred = same i; call = c i }
 
-  rows_narrow : (names : List (Name PredKey Abs)) → ((x : Name PredKey Abs) → IsIn x names → IsReached p laws program good limit rows done x) → All IsNarrow (plain_rows p rows names)
+  rows_narrow : (names : List (Name PredKey Abs)) → ((x : Name PredKey Abs) → IsIn x names → IsReached p laws program good limit rows done x)
+      → All IsNarrow (plain_rows p rows names)
   rows_narrow names h = all_in IsNarrow (plain_rows p rows names) (λ row i. map_in IsNarrow (plain_at p rows) names row i (λ x j. row_narrow x (h x j)))
 
-  rows_apart : (names : List (Name PredKey Abs)) → AreDistinct names → ((x : Name PredKey Abs) → IsIn x names → IsReached p laws program good limit rows done x) → AreApart (plain_rows p rows names)
+  rows_apart : (names : List (Name PredKey Abs)) → AreDistinct names
+      → ((x : Name PredKey Abs) → IsIn x names → IsReached p laws program good limit rows done x) → AreApart (plain_rows p rows names)
   rows_apart [] d h = tt
   rows_apart (x ∷ names) d h = (
     all_in (λ later. HaveSameText (row_name x) later.name → ⊥) (plain_rows p rows names)
@@ -144,10 +183,12 @@ module _ (p : PlainDomain) (laws : IsLawful p) (printed : IsPrinted p) (program 
     gathered (ByCall {x = x} m c r i j) = calls m (gathered r) c i x j
 
     sound_row : (x : Name PredKey Abs) → IsIn x names
-        → ((k : ℕ) × Reaches (as_domain p) (as_program p program) (source_of (as_domain p) rows) k x) × (answer_in (plain_at p rows x).answer ≡ source_of (as_domain p) rows x.pred x.call)
+        → ((k : ℕ) × Reaches (as_domain p) (as_program p program) (source_of (as_domain p) rows) k x)
+        × (answer_in (plain_at p rows x).answer ≡ source_of (as_domain p) rows x.pred x.call)
     sound_row x i = (
       reaching.reached x i,
-      answer_back (answers_of p rows (row_name x)) (λ a e. printed.some x.pred.arity a (same_up_to (p.Leq x.pred.arity) (answers_of p rows (row_name x)) a (answer_fits x) e)),
+      answer_back (answers_of p rows (row_name x))
+          (λ a e. printed.some x.pred.arity a (same_up_to (p.Leq x.pred.arity) (answers_of p rows (row_name x)) a (answer_fits x) e)),
     )
 
     -- Theorem: the rows in order are the least table.
@@ -159,13 +200,16 @@ module _ (p : PlainDomain) (laws : IsLawful p) (printed : IsPrinted p) (program 
         (record {
           ordered = ordered p sorted in_order;
           sound = λ r i.
-              map_in (λ (q : Row (as_domain p)). ((k : ℕ) × Reaches (as_domain p) (as_program p program) (source_of (as_domain p) rows) k q.name) × (q.answer ≡ source_of (as_domain p) rows q.name.pred q.name.call))
+              map_in (λ (q : Row (as_domain p)). ((k : ℕ) × Reaches (as_domain p) (as_program p program) (source_of (as_domain p) rows) k q.name)
+              × (q.answer ≡ source_of (as_domain p) rows q.name.pred q.name.call))
               (row_of p) sorted r i
-              (λ q j. map_in (λ (s : PlainRow). ((k : ℕ) × Reaches (as_domain p) (as_program p program) (source_of (as_domain p) rows) k (row_of p s).name) × (answer_in s.answer ≡ source_of (as_domain p) rows s.name.pred s.name.call))
+              (λ q j. map_in (λ (s : PlainRow). ((k : ℕ) × Reaches (as_domain p) (as_program p program) (source_of (as_domain p) rows) k (row_of p s).name)
+              × (answer_in s.answer ≡ source_of (as_domain p) rows s.name.pred s.name.call))
               (plain_at p rows) names q (in_permutation q sorted (plain_rows p rows names) back j) (λ x l. sound_row x l));
           whole = λ k x r. (
             row_of p (plain_at p rows x),
-            in_map (row_of p) sorted (plain_at p rows x) (in_permutation (plain_at p rows x) (plain_rows p rows names) sorted moved (in_map (plain_at p rows) names x (gathered r))),
+            in_map (row_of p) sorted (plain_at p rows x)
+                (in_permutation (plain_at p rows x) (plain_rows p rows names) sorted moved (in_map (plain_at p rows) names x (gathered r))),
             refl,
           );
         })

@@ -75,10 +75,12 @@ module _ (V : Type 0) (value_of : V → Abs) (same_call : V → V → Bool) (equ
 
   -- the test for equal names answers as the one for equal keys
   tests_agree : (a b : Key V) (t : Bool) → same_key a b ≡ t → (row_eq.ghosts).eq (row_name (key_name value_of b)) (row_name (key_name value_of a)) ≡ t
-  tests_agree a b true e = subst (λ (x : Name PredKey Abs). (row_eq.ghosts).eq (row_name x) (row_name (key_name value_of a)) ≡ true) (key-true a b e) (same_name-refl (row_name (key_name value_of a)))
+  tests_agree a b true e = subst (λ (x : Name PredKey Abs). (row_eq.ghosts).eq (row_name x) (row_name (key_name value_of a)) ≡ true) (key-true a b e)
+      (same_name-refl (row_name (key_name value_of a)))
   tests_agree a b false e =
       by_test ((row_eq.ghosts).eq (row_name (key_name value_of b)) (row_name (key_name value_of a)))
-      (λ t. let n : row_name (key_name value_of b) ≡ row_name (key_name value_of a) = same_name-true (row_name (key_name value_of b)) (row_name (key_name value_of a)) t in
+      (λ t. let n : row_name (key_name value_of b) ≡ row_name (key_name value_of a) =
+      same_name-true (row_name (key_name value_of b)) (row_name (key_name value_of a)) t in
       let k : key_name value_of a ≡ key_name value_of b = (λ i. record { pred = (sym n i).pred; call = (sym n i).call }) in
       let c : true ≡ false = sym (key-same a b k) ∙ e in cc)
       (λ t. t)
@@ -88,5 +90,7 @@ module _ (V : Type 0) (value_of : V → Abs) (same_call : V → V → Bool) (equ
   looked_up p key [] = refl
   looked_up p key (r ∷ entries) =
       by_test (same_key key r.0)
-      (λ t. let u : (row_eq.ghosts).eq (row_name (key_name value_of r.0)) (row_name (key_name value_of key)) ≡ true = tests_agree key r.0 true t in rw (t, u) refl)
-      (λ t. let u : (row_eq.ghosts).eq (row_name (key_name value_of r.0)) (row_name (key_name value_of key)) ≡ false = tests_agree key r.0 false t in rw (t, u) (looked_up p key entries))
+      (λ t. let u : (row_eq.ghosts).eq (row_name (key_name value_of r.0)) (row_name (key_name value_of key)) ≡ true = tests_agree key r.0 true t in
+      rw (t, u) refl)
+      (λ t. let u : (row_eq.ghosts).eq (row_name (key_name value_of r.0)) (row_name (key_name value_of key)) ≡ false = tests_agree key r.0 false t in
+      rw (t, u) (looked_up p key entries))

@@ -18,7 +18,8 @@ use Rattle.plai_eval.specs.Meaning.{Calling, Acting, as_domain, as_program}
 use Rattle.plai_eval.proofs.Lawful.{call_in}
 
 module _ (p : PlainDomain) (s : theory.Source (as_domain p)) where
-  along_narrow : (steps : List (Step Calling Acting)) → ((l : Calling) → IsIn (Goal l) steps → l.pred.arity ≤ most_arguments) → (st : StateView) (x : Name PredKey Abs)
+  along_narrow : (steps : List (Step Calling Acting)) → ((l : Calling) → IsIn (Goal l) steps → l.pred.arity ≤ most_arguments)
+      → (st : StateView) (x : Name PredKey Abs)
       → IsIn x (calls_along (as_domain p) s steps st) → x.pred.arity ≤ most_arguments
   unfolding calls_along
   along_narrow [] h st x i = absurd i
@@ -31,7 +32,8 @@ module _ (p : PlainDomain) (s : theory.Source (as_domain p)) where
       (λ answer e j. given_in (x.pred.arity ≤ most_arguments) x ((as_domain p).back l st answer) (λ next. calls_along (as_domain p) s rest next) j
       (λ next f k. along_narrow rest (λ m n. h m (inr n)) next x k))
 
-  called_narrow : (program : ProgramView) → IsWellFormed program → (q : PredKey) (clause : Clause) → IsIn clause (clauses_of program q) → (v : Abs) (x : Name PredKey Abs)
+  called_narrow : (program : ProgramView) → IsWellFormed program → (q : PredKey) (clause : Clause) → IsIn clause (clauses_of program q)
+      → (v : Abs) (x : Name PredKey Abs)
       → IsIn x (calls_of (as_domain p) s clause v) → x.pred.arity ≤ most_arguments
   unfolding calls_of
   called_narrow program good q clause inside v x i =
@@ -41,8 +43,10 @@ module _ (p : PlainDomain) (s : theory.Source (as_domain p)) where
       subst (λ n. n ≤ most_arguments) is.arity is.args.few) st x j)
 
   -- Theorem: so do those that are reached.
-  pub reached_narrow : (program : ProgramView) → IsWellFormed program → {k : ℕ} {x : Name PredKey Abs} → Reaches (as_domain p) (as_program p program) s k x → x.pred.arity ≤ most_arguments
+  pub reached_narrow : (program : ProgramView) → IsWellFormed program → {k : ℕ} {x : Name PredKey Abs} → Reaches (as_domain p) (as_program p program) s k x
+      → x.pred.arity ≤ most_arguments
   reached_narrow program good (AtEntry {x = x} i) =
-      map_in (λ (n : Name PredKey Abs). n.pred.arity ≤ most_arguments) (λ entry. record { pred = entry.pred; call = p.describe entry.pred.arity entry.pre }) (entries_of program) x i
+      map_in (λ (n : Name PredKey Abs). n.pred.arity ≤ most_arguments) (λ entry. record { pred = entry.pred; call = p.describe entry.pred.arity entry.pre })
+      (entries_of program) x i
       (λ entry j. (good.entries entry j).few)
   reached_narrow program good (ByCall {x = x} m c r i j) = called_narrow program good m.pred c i m.call x j

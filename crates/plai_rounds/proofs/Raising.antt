@@ -1,5 +1,32 @@
 -- Rows in the making stay so where an answer is raised by an evaluation.
-use Rattle.std.proofs.Common.{◌≡◌, ℕ, zero, suc, ◌+◌, ◌<◌, ◌≤◌, true, false, List, [], ◌∷◌, map, length, slice_get, Option, Some, None, sym, refl, ap, ◌∙◌, subst, inl, inr, arith}
+use Rattle.std.proofs.Common.{
+  ◌≡◌,
+  ℕ,
+  zero,
+  suc,
+  ◌+◌,
+  ◌<◌,
+  ◌≤◌,
+  true,
+  false,
+  List,
+  [],
+  ◌∷◌,
+  map,
+  length,
+  slice_get,
+  Option,
+  Some,
+  None,
+  sym,
+  refl,
+  ap,
+  ◌∙◌,
+  subst,
+  inl,
+  inr,
+  arith,
+}
 use Rattle.std.specs.Option.{option_map}
 use Rattle.indexmap.specs.IndexMap.{set_value_at}
 use Rattle.plai_theory.specs.Words.{IsIn, UpTo}
@@ -31,11 +58,15 @@ use Rattle.plai_rounds.proofs.Lists.{get_in, get_map, length_map}
 -- one row changes
 module _ (V : Type 0) (value_of : V → Abs) (p : PlainDomain) (key : Key V) (had : Option V) (value : V) where
   total_set : (f : Row (as_domain p) → ℕ) (entries : List (Key V × Option V)) (index : ℕ) → slice_get entries index ≡ Some (key, had)
-      → total p f (rows_of value_of p (set_value_at entries index (Some value))) + f (row_at value_of p (key, had)) ≡ total p f (rows_of value_of p entries) + f (row_at value_of p (key, Some value))
+      → total p f (rows_of value_of p (set_value_at entries index (Some value))) + f (row_at value_of p (key, had))
+      ≡ total p f (rows_of value_of p entries) + f (row_at value_of p (key, Some value))
   total_set f [] index e = cc
-  total_set f (r ∷ entries) zero e = let same : r ≡ (key, had) = cc in subst (λ (q : Key V × Option V). total p f (rows_of value_of p (set_value_at (q ∷ entries) zero (Some value))) + f (row_at value_of p (key, had)) ≡ total p f (rows_of value_of p (q ∷ entries)) + f (row_at value_of p (key, Some value))) (sym same) (omega arith)
+  total_set f (r ∷ entries) zero e = let same : r ≡ (key, had) = cc in
+      subst (λ (q : Key V × Option V). total p f (rows_of value_of p (set_value_at (q ∷ entries) zero (Some value))) + f (row_at value_of p (key, had))
+      ≡ total p f (rows_of value_of p (q ∷ entries)) + f (row_at value_of p (key, Some value))) (sym same) (omega arith)
   total_set f (r ∷ entries) (suc index) e =
-      let k : total p f (rows_of value_of p (set_value_at entries index (Some value))) + f (row_at value_of p (key, had)) ≡ total p f (rows_of value_of p entries) + f (row_at value_of p (key, Some value)) = total_set f entries index e in
+      let k : total p f (rows_of value_of p (set_value_at entries index (Some value))) + f (row_at value_of p (key, had))
+      ≡ total p f (rows_of value_of p entries) + f (row_at value_of p (key, Some value)) = total_set f entries index e in
       omega arith
 
   length_set : (entries : List (Key V × Option V)) (index : ℕ) → length (set_value_at entries index (Some value)) ≡ length entries
@@ -43,38 +74,48 @@ module _ (V : Type 0) (value_of : V → Abs) (p : PlainDomain) (key : Key V) (ha
   length_set (r ∷ entries) zero = refl
   length_set (r ∷ entries) (suc index) = ap suc (length_set entries index)
 
-  names_set : (entries : List (Key V × Option V)) (index : ℕ) → names_of p (rows_of value_of p (set_value_at entries index (Some value))) ≡ names_of p (rows_of value_of p entries)
+  names_set : (entries : List (Key V × Option V)) (index : ℕ)
+      → names_of p (rows_of value_of p (set_value_at entries index (Some value))) ≡ names_of p (rows_of value_of p entries)
   names_set [] index = refl
   names_set (r ∷ entries) zero = refl
   names_set (r ∷ entries) (suc index) = ap (λ rest. key_name value_of r.0 ∷ rest) (names_set entries index)
 
-  module _ (program : ProgramView) (laws : theory.IsLawful (as_domain p) (as_program p program)) (a : Option Abs) (is : Some (value_of value) ≡ join_of (as_domain p) (option_map value_of had) a) where
-    untouched : (rows : List (Row (as_domain p))) → ((q : Row (as_domain p)) → IsIn q rows → key_name value_of key ≡ q.name → ⊥) → map (after_raising (as_domain p) (key_name value_of key) a) rows ≡ rows
+  module _ (program : ProgramView) (laws : theory.IsLawful (as_domain p) (as_program p program)) (a : Option Abs)
+      (is : Some (value_of value) ≡ join_of (as_domain p) (option_map value_of had) a) where
+    untouched : (rows : List (Row (as_domain p))) → ((q : Row (as_domain p)) → IsIn q rows → key_name value_of key ≡ q.name → ⊥)
+        → map (after_raising (as_domain p) (key_name value_of key) a) rows ≡ rows
     untouched [] h = refl
     untouched (q ∷ rows) h =
         by_test ((as_domain p).same_name q.name (key_name value_of key)) (λ t. absurd (h q (inl refl) (sym (laws.same_true q.name (key_name value_of key) t))))
         (λ t. rw t (ap (λ rest. q ∷ rest) (untouched rows (λ r i. h r (inr i)))))
 
     -- writing at the place is raising at the name
-    rows_set : (entries : List (Key V × Option V)) (index : ℕ) → slice_get entries index ≡ Some (key, had) → IsDistinct (as_domain p) (rows_of value_of p entries)
-        → map (after_raising (as_domain p) (key_name value_of key) a) (rows_of value_of p entries) ≡ rows_of value_of p (set_value_at entries index (Some value))
+    rows_set : (entries : List (Key V × Option V)) (index : ℕ) → slice_get entries index ≡ Some (key, had)
+        → IsDistinct (as_domain p) (rows_of value_of p entries)
+        → map (after_raising (as_domain p) (key_name value_of key) a) (rows_of value_of p entries)
+        ≡ rows_of value_of p (set_value_at entries index (Some value))
     rows_set [] index e dis = cc
     rows_set (r ∷ entries) zero e dis =
         let same : r ≡ (key, had) = cc in
         let t : (as_domain p).same_name (key_name value_of r.0) (key_name value_of key) ≡ true =
-        subst (λ (q : Key V × Option V). (as_domain p).same_name (key_name value_of q.0) (key_name value_of key) ≡ true) (sym same) (laws.same_refl (key_name value_of key)) in
+        subst (λ (q : Key V × Option V). (as_domain p).same_name (key_name value_of q.0) (key_name value_of key) ≡ true) (sym same)
+        (laws.same_refl (key_name value_of key)) in
         let rest : map (after_raising (as_domain p) (key_name value_of key) a) (rows_of value_of p entries) ≡ rows_of value_of p entries =
         untouched (rows_of value_of p entries) (λ q i n. dis.0 q i (ap (λ (x : Key V × Option V). key_name value_of x.0) same ∙ n)) in
-        let j : join_of (as_domain p) (option_map value_of r.1) a ≡ Some (value_of value) = ap (λ (q : Key V × Option V). join_of (as_domain p) (option_map value_of q.1) a) same ∙ sym is in
+        let j : join_of (as_domain p) (option_map value_of r.1) a ≡ Some (value_of value) =
+        ap (λ (q : Key V × Option V). join_of (as_domain p) (option_map value_of q.1) a) same ∙ sym is in
         rw (t, j, rest) refl
     rows_set (r ∷ entries) (suc index) e dis =
-        let i : IsIn (row_at value_of p (key, had)) (rows_of value_of p entries) = get_in (rows_of value_of p entries) index _ (get_map (row_at value_of p) entries index (key, had) e) in
+        let i : IsIn (row_at value_of p (key, had)) (rows_of value_of p entries) =
+        get_in (rows_of value_of p entries) index _ (get_map (row_at value_of p) entries index (key, had) e) in
         let f : (as_domain p).same_name (key_name value_of r.0) (key_name value_of key) ≡ false =
-        by_test ((as_domain p).same_name (key_name value_of r.0) (key_name value_of key)) (λ t. absurd (dis.0 _ i (laws.same_true (key_name value_of r.0) (key_name value_of key) t))) (λ t. t) in
+        by_test ((as_domain p).same_name (key_name value_of r.0) (key_name value_of key))
+        (λ t. absurd (dis.0 _ i (laws.same_true (key_name value_of r.0) (key_name value_of key) t))) (λ t. t) in
         rw f (ap (λ rest. row_at value_of p r ∷ rest) (rows_set entries index e dis.1))
 
 -- names stay distinct where names stay
-pub distinct_by_names : (p : PlainDomain) (xs ys : List (Row (as_domain p))) → names_of p xs ≡ names_of p ys → IsDistinct (as_domain p) xs → IsDistinct (as_domain p) ys
+pub distinct_by_names : (p : PlainDomain) (xs ys : List (Row (as_domain p))) → names_of p xs ≡ names_of p ys → IsDistinct (as_domain p) xs
+    → IsDistinct (as_domain p) ys
 distinct_by_names p xs [] e h = tt
 distinct_by_names p [] (y ∷ ys) e h = cc
 distinct_by_names p (x ∷ xs) (y ∷ ys) e h =
@@ -102,22 +143,27 @@ module _ (V : Type 0) (value_of : V → Abs) (p : PlainDomain) (laws : IsLawful 
     (index : ℕ) (key : Key V) (had : Option V) (at : slice_get old index ≡ Some (key, had))
     (clause : Clause) (inside : IsIn clause (clauses_of program key.pred))
     (given : Option Abs) (is : given ≡ answer_of (as_domain p) (source_of (as_domain p) seen) clause (value_of key.call)) where
-  set_making : (new : List (Key V × Option V)) (value : V) → new ≡ set_value_at old index (Some value) → Some (value_of value) ≡ join_of (as_domain p) (option_map value_of had) given
+  set_making : (new : List (Key V × Option V)) (value : V) → new ≡ set_value_at old index (Some value)
+      → Some (value_of value) ≡ join_of (as_domain p) (option_map value_of had) given
       → IsMaking p program limit (rows_of value_of p new)
   set_making new value written joined =
       let theory_laws : theory.IsLawful (as_domain p) (as_program p program) = lawful_at p laws program good in
-      let raised : map (after_raising (as_domain p) (key_name value_of key) given) (rows_of value_of p old) ≡ rows_of value_of p (set_value_at old index (Some value)) =
+      let raised : map (after_raising (as_domain p) (key_name value_of key) given) (rows_of value_of p old)
+      ≡ rows_of value_of p (set_value_at old index (Some value)) =
       rows_set V value_of p key had value program theory_laws given joined old index at making.distinct in
-      let n : length (rows_of value_of p (set_value_at old index (Some value))) ≡ length (set_value_at old index (Some value)) = length_map (row_at value_of p) (set_value_at old index (Some value)) in
+      let n : length (rows_of value_of p (set_value_at old index (Some value))) ≡ length (set_value_at old index (Some value)) =
+      length_map (row_at value_of p) (set_value_at old index (Some value)) in
       let m : length (set_value_at old index (Some value)) ≡ length old = length_set V value_of p key had value old index in
       let l : length (rows_of value_of p old) ≡ length old = length_map (row_at value_of p) old in
       let few : length (rows_of value_of p old) ≤ limit = making.few in
       subst (λ (es : List (Key V × Option V)). IsMaking p program limit (rows_of value_of p es)) (sym written)
       (record {
         made = subst (IsMade (as_domain p) (as_program p program)) raised
-            (subst (λ (a : Option Abs). IsMade (as_domain p) (as_program p program) (map (after_raising (as_domain p) (key_name value_of key) a) (rows_of value_of p old))) (sym is)
+            (subst (λ (a : Option Abs). IsMade (as_domain p) (as_program p program)
+            (map (after_raising (as_domain p) (key_name value_of key) a) (rows_of value_of p old))) (sym is)
             (Raise (key_name value_of key) clause making.made made inside));
-        distinct = distinct_by_names p (rows_of value_of p old) (rows_of value_of p (set_value_at old index (Some value))) (sym (names_set V value_of p key had value old index)) making.distinct;
+        distinct = distinct_by_names p (rows_of value_of p old) (rows_of value_of p (set_value_at old index (Some value)))
+            (sym (names_set V value_of p key had value old index)) making.distinct;
         few = omega arith;
       })
 
@@ -125,22 +171,27 @@ module _ (V : Type 0) (value_of : V → Abs) (p : PlainDomain) (laws : IsLawful 
   set_keeps : (new : List (Key V × Option V)) (value : V) → new ≡ set_value_at old index (Some value) → (k : ℕ) (x : Name PredKey Abs)
       → slice_get (names_of p (rows_of value_of p old)) k ≡ Some x → slice_get (names_of p (rows_of value_of p new)) k ≡ Some x
   set_keeps new value written k x e =
-      subst (λ ns. slice_get ns k ≡ Some x) (sym (names_set V value_of p key had value old index) ∙ ap (λ es. names_of p (rows_of value_of p es)) (sym written)) e
+      subst (λ ns. slice_get ns k ≡ Some x) (sym (names_set V value_of p key had value old index)
+      ∙ ap (λ es. names_of p (rows_of value_of p es)) (sym written)) e
 
   -- and what it does to the room and the ranks
   set_room : (new : List (Key V × Option V)) (value : V) → new ≡ set_value_at old index (Some value)
       → room p limit (rows_of value_of p new) + one_at_none (option_map value_of had) ≡ room p limit (rows_of value_of p old)
   set_room new value written =
-      let t : total p (λ r. one_at_none r.answer) (rows_of value_of p (set_value_at old index (Some value))) + one_at_none (option_map value_of had) ≡ total p (λ r. one_at_none r.answer) (rows_of value_of p old) + 0 =
+      let t : total p (λ r. one_at_none r.answer) (rows_of value_of p (set_value_at old index (Some value))) + one_at_none (option_map value_of had)
+      ≡ total p (λ r. one_at_none r.answer) (rows_of value_of p old) + 0 =
       total_set V value_of p key had value (λ r. one_at_none r.answer) old index at in
       let n : length (rows_of value_of p (set_value_at old index (Some value))) ≡ length (rows_of value_of p old) =
-      length_map (row_at value_of p) (set_value_at old index (Some value)) ∙ length_set V value_of p key had value old index ∙ sym (length_map (row_at value_of p) old) in
-      subst (λ es. room p limit (rows_of value_of p es) + one_at_none (option_map value_of had) ≡ room p limit (rows_of value_of p old)) (sym written) (omega arith)
+      length_map (row_at value_of p) (set_value_at old index (Some value)) ∙ length_set V value_of p key had value old index
+      ∙ sym (length_map (row_at value_of p) old) in
+      subst (λ es. room p limit (rows_of value_of p es) + one_at_none (option_map value_of had) ≡ room p limit (rows_of value_of p old)) (sym written)
+      (omega arith)
 
   set_ranks : (new : List (Key V × Option V)) (value : V) → new ≡ set_value_at old index (Some value)
       → ranks p (rows_of value_of p new) + rank_of p.rank (option_map value_of had) ≡ ranks p (rows_of value_of p old) + p.rank (value_of value)
   set_ranks new value written =
-      subst (λ es. ranks p (rows_of value_of p es) + rank_of p.rank (option_map value_of had) ≡ ranks p (rows_of value_of p old) + p.rank (value_of value)) (sym written)
+      subst (λ es. ranks p (rows_of value_of p es) + rank_of p.rank (option_map value_of had) ≡ ranks p (rows_of value_of p old) + p.rank (value_of value))
+      (sym written)
       (total_set V value_of p key had value (λ r. rank_of p.rank r.answer) old index at)
 
   same_step : (new : List (Key V × Option V)) → new ≡ old → IsStep p program limit (rows_of value_of p old) (rows_of value_of p new) Nothing
@@ -159,9 +210,12 @@ module _ (V : Type 0) (value_of : V → Abs) (p : PlainDomain) (laws : IsLawful 
   raised (Some x) (Some y) eh ea vh va new Grown (set, grew) =
       let joined : Some (value_of set.value) ≡ join_of (as_domain p) (option_map value_of had) given =
       ap (λ z. Some z) set.is ∙ ap (λ o. join_of (as_domain p) o (Some y)) eh ∙ ap (join_of (as_domain p) (option_map value_of had)) ea in
-      let r : room p limit (rows_of value_of p new) + one_at_none (option_map value_of had) ≡ room p limit (rows_of value_of p old) = set_room new set.value set.written in
-      let r' : room p limit (rows_of value_of p new) + 0 ≡ room p limit (rows_of value_of p old) = subst (λ o. room p limit (rows_of value_of p new) + one_at_none o ≡ room p limit (rows_of value_of p old)) (sym eh) r in
-      let s : ranks p (rows_of value_of p new) + rank_of p.rank (option_map value_of had) ≡ ranks p (rows_of value_of p old) + p.rank (value_of set.value) = set_ranks new set.value set.written in
+      let r : room p limit (rows_of value_of p new) + one_at_none (option_map value_of had) ≡ room p limit (rows_of value_of p old) =
+      set_room new set.value set.written in
+      let r' : room p limit (rows_of value_of p new) + 0 ≡ room p limit (rows_of value_of p old) =
+      subst (λ o. room p limit (rows_of value_of p new) + one_at_none o ≡ room p limit (rows_of value_of p old)) (sym eh) r in
+      let s : ranks p (rows_of value_of p new) + rank_of p.rank (option_map value_of had) ≡ ranks p (rows_of value_of p old) + p.rank (value_of set.value) =
+      set_ranks new set.value set.written in
       let s' : ranks p (rows_of value_of p new) + p.rank x ≡ ranks p (rows_of value_of p old) + p.rank (value_of set.value) =
       subst (λ o. ranks p (rows_of value_of p new) + rank_of p.rank o ≡ ranks p (rows_of value_of p old) + p.rank (value_of set.value)) (sym eh) s in
       let le : p.Leq key.pred.arity x (p.join x y) = laws.ordered.join_first key.pred.arity x y vh va in
@@ -177,8 +231,10 @@ module _ (V : Type 0) (value_of : V → Abs) (p : PlainDomain) (laws : IsLawful 
   raised None (Some y) eh ea vh va new Opened set =
       let joined : Some (value_of set.value) ≡ join_of (as_domain p) (option_map value_of had) given =
       ap (λ z. Some z) set.is ∙ ap (λ o. join_of (as_domain p) o (Some y)) eh ∙ ap (join_of (as_domain p) (option_map value_of had)) ea in
-      let r : room p limit (rows_of value_of p new) + one_at_none (option_map value_of had) ≡ room p limit (rows_of value_of p old) = set_room new set.value set.written in
-      let r' : room p limit (rows_of value_of p new) + 1 ≡ room p limit (rows_of value_of p old) = subst (λ o. room p limit (rows_of value_of p new) + one_at_none o ≡ room p limit (rows_of value_of p old)) (sym eh) r in (
+      let r : room p limit (rows_of value_of p new) + one_at_none (option_map value_of had) ≡ room p limit (rows_of value_of p old) =
+      set_room new set.value set.written in
+      let r' : room p limit (rows_of value_of p new) + 1 ≡ room p limit (rows_of value_of p old) =
+      subst (λ o. room p limit (rows_of value_of p new) + one_at_none o ≡ room p limit (rows_of value_of p old)) (sym eh) r in (
         record {
           making = set_making new set.value set.written joined;
           keeps = set_keeps new set.value set.written;

@@ -28,7 +28,8 @@ module _ (p : PlainDomain) (limit : ℕ) (a b c : List (Row (as_domain p))) wher
   moves_then Opened Opened m n = omega arith
 
 -- Theorem: two parts are one.
-pub step_then : (p : PlainDomain) (program : ProgramView) (limit : ℕ) (a b c : List (Row (as_domain p))) (s t : Change) → IsStep p program limit a b s → IsStep p program limit b c t
+pub step_then : (p : PlainDomain) (program : ProgramView) (limit : ℕ) (a b c : List (Row (as_domain p))) (s t : Change) → IsStep p program limit a b s
+    → IsStep p program limit b c t
     → IsStep p program limit a c (both_of s t)
 step_then p program limit a b c s t first second =
     record {
@@ -37,7 +38,8 @@ step_then p program limit a b c s t first second =
       moves = moves_then p limit a b c s t first.moves second.moves;
     }
 
-pub no_step : (p : PlainDomain) (program : ProgramView) (limit : ℕ) (a : List (Row (as_domain p))) → IsMaking p program limit a → IsStep p program limit a a Nothing
+pub no_step : (p : PlainDomain) (program : ProgramView) (limit : ℕ) (a : List (Row (as_domain p))) → IsMaking p program limit a
+    → IsStep p program limit a a Nothing
 no_step p program limit a making = record { making = making; keeps = λ k x e. e; moves = refl }
 
 -- nothing changes only where neither part changes anything
@@ -63,7 +65,8 @@ step_longer p program limit a b s step k h =
     omega arith
 
 -- where nothing changes the rows are the same
-pub step_same : (p : PlainDomain) (program : ProgramView) (limit : ℕ) (a b : List (Row (as_domain p))) (s : Change) → IsStep p program limit a b s → s ≡ Nothing → b ≡ a
+pub step_same : (p : PlainDomain) (program : ProgramView) (limit : ℕ) (a b : List (Row (as_domain p))) (s : Change) → IsStep p program limit a b s
+    → s ≡ Nothing → b ≡ a
 step_same p program limit a b s step e = subst (Moves p limit a b) e step.moves
 
 pub entries_longer : {V : Type 0} (value_of : V → Abs) (p : PlainDomain) (program : ProgramView) (limit : ℕ) (a b : List (Key V × Option V)) (s : Change)
@@ -85,12 +88,14 @@ pub settling : (p : PlainDomain) (program : ProgramView) (limit : ℕ) (old mid 
 settling p program limit old mid new change keeps same step quiet no_growth =
     record { making = step.making; keeps = λ k x e. step.keeps k x (keeps k x e); settles = at change step.moves quiet no_growth }
   where
-    at : (change : Change) → Moves p limit mid new change → (change ≡ Nothing → AreQuiet p program mid) → (change ≡ Grown → ⊥) → Settles p program limit old new change
+    at : (change : Change) → Moves p limit mid new change → (change ≡ Nothing → AreQuiet p program mid) → (change ≡ Grown → ⊥)
+        → Settles p program limit old new change
     at Nothing moves quiet no_growth = subst (AreQuiet p program) (sym moves) (quiet refl)
     at Grown moves quiet no_growth = no_growth refl
     at Opened moves quiet no_growth = subst (λ n. room p limit new < n) same moves
 
 pub settling_then : (p : PlainDomain) (program : ProgramView) (limit : ℕ) (old mid new : List (Row (as_domain p))) (change : Change)
-    → ((k : ℕ) (x : Name PredKey Abs) → IsAt p old k x → IsAt p mid k x) → IsSettling p program limit mid new change → change ≡ Nothing → IsSettling p program limit old new Nothing
+    → ((k : ℕ) (x : Name PredKey Abs) → IsAt p old k x → IsAt p mid k x) → IsSettling p program limit mid new change → change ≡ Nothing
+    → IsSettling p program limit old new Nothing
 settling_then p program limit old mid new change keeps s e =
     record { making = s.making; keeps = λ k x at. s.keeps k x (keeps k x at); settles = subst (Settles p program limit mid new) e s.settles }

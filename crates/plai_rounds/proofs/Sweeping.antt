@@ -30,7 +30,8 @@ module _ (p : PlainDomain) (program : ProgramView) (limit : ℕ) (old mid new : 
   pub clauses_more : (clauses : List Clause) (index i : ℕ) (clause : Clause) → slice_get clauses i ≡ Some clause
       → (s ≡ Nothing → (k : ℕ) (c : Clause) → k < i → slice_get clauses k ≡ Some c → (x : Name PredKey Abs) → IsAt p old index x → IsQuiet p old x c)
       → (t ≡ Nothing → (x : Name PredKey Abs) → IsAt p mid index x → IsQuiet p mid x clause)
-      → both_of s t ≡ Nothing → (k : ℕ) (c : Clause) → k < i + 1 → slice_get clauses k ≡ Some c → (x : Name PredKey Abs) → IsAt p old index x → IsQuiet p old x c
+      → both_of s t ≡ Nothing → (k : ℕ) (c : Clause) → k < i + 1 → slice_get clauses k ≡ Some c → (x : Name PredKey Abs) → IsAt p old index x
+      → IsQuiet p old x c
   clauses_more clauses index i clause is so_far here none k c h e x at =
       let (a, b) = both_nothing s t none in
       let same : mid ≡ old = step_same p program limit old mid s first a in

@@ -1,5 +1,31 @@
 -- The evaluation of a clause of a row, worked into the rows.
-use Rattle.std.proofs.Common.{◌≡◌, ℕ, zero, suc, ◌<◌, ◌≤◌, Bool, true, false, List, [], ◌∷◌, map, length, slice_get, Option, Some, None, sym, refl, ap, ◌∙◌, subst, inr, arith}
+use Rattle.std.proofs.Common.{
+  ◌≡◌,
+  ℕ,
+  zero,
+  suc,
+  ◌<◌,
+  ◌≤◌,
+  Bool,
+  true,
+  false,
+  List,
+  [],
+  ◌∷◌,
+  map,
+  length,
+  slice_get,
+  Option,
+  Some,
+  None,
+  sym,
+  refl,
+  ap,
+  ◌∙◌,
+  subst,
+  inr,
+  arith,
+}
 use Rattle.std.specs.Option.{option_map}
 use Rattle.plai_theory.specs.Words.{IsIn, UpTo}
 use Rattle.plai_theory.specs.Domain.{Name}
@@ -35,17 +61,20 @@ use Rattle.plai_rounds.proofs.Raising.{raised}
 use Rattle.plai_rounds.proofs.Steps.{step_then, both_nothing}
 
 -- entries keep their places
-adds_at : (V : Type 0) (value_of : V → Abs) (limit : ℕ) (names : List (Name PredKey Abs)) (old : List (Key V × Option V)) {new : List (Key V × Option V)} → Adds V value_of limit names old new
+adds_at : (V : Type 0) (value_of : V → Abs) (limit : ℕ) (names : List (Name PredKey Abs)) (old : List (Key V × Option V)) {new : List (Key V × Option V)}
+    → Adds V value_of limit names old new
     → (k : ℕ) (e : Key V × Option V) → slice_get old k ≡ Some e → slice_get new k ≡ Some e
 adds_at V value_of limit names old Same k e is = is
-adds_at V value_of limit names old (Next {rows = rows} key a i absent few) k e is = get_left rows ((key, None) ∷ []) k e (adds_at V value_of limit names old a k e is)
+adds_at V value_of limit names old (Next {rows = rows} key a i absent few) k e is =
+    get_left rows ((key, None) ∷ []) k e (adds_at V value_of limit names old a k e is)
 
 not_added : (added : Bool) → change_of added ≡ Nothing → added ≡ false
 not_added true e = cc
 not_added false e = refl
 
 -- names that are asked for are added in a step
-pub adds_step : (V : Type 0) (value_of : V → Abs) (p : PlainDomain) (program : ProgramView) (limit : ℕ) (names : List (Name PredKey Abs)) (seen : List (Row (as_domain p)))
+pub adds_step : (V : Type 0) (value_of : V → Abs) (p : PlainDomain) (program : ProgramView) (limit : ℕ) (names : List (Name PredKey Abs))
+    (seen : List (Row (as_domain p)))
     → IsMade (as_domain p) (as_program p program) seen → ((x : Name PredKey Abs) → IsIn x names → IsAsked (as_domain p) (as_program p program) seen x)
     → (old new : List (Key V × Option V)) → IsMaking p program limit (rows_of value_of p old) → (added : Bool) → AddsAll V value_of limit names old new added
     → IsStep p program limit (rows_of value_of p old) (rows_of value_of p new) (change_of added)
@@ -57,7 +86,8 @@ adds_step V value_of p program limit names seen made asked old new making added 
       moves = at added all.same all.more;
     }
   where
-    at : (added : Bool) → (added ≡ false → new ≡ old) → (added ≡ true → length old < length new) → Moves p limit (rows_of value_of p old) (rows_of value_of p new) (change_of added)
+    at : (added : Bool) → (added ≡ false → new ≡ old) → (added ≡ true → length old < length new)
+        → Moves p limit (rows_of value_of p old) (rows_of value_of p new) (change_of added)
     at false same more = ap (rows_of value_of p) (same refl)
     at true same more =
         let l : length (rows_of value_of p old) ≡ length old = length_map (row_at value_of p) old in
@@ -79,12 +109,14 @@ module _ (V : Type 0) (value_of : V → Abs) (p : PlainDomain) (laws : IsLawful 
 
   -- the answers are values
   pub had_fits : UpTo (p.Leq key.pred.arity) (option_map value_of had) (option_map value_of had)
-  had_fits = row_fits (as_domain p) (as_program p program) (lawful_at p laws program good) (rows_of value_of p old) making.made (row_at value_of p (key, had)) own
+  had_fits = row_fits (as_domain p) (as_program p program) (lawful_at p laws program good) (rows_of value_of p old) making.made
+      (row_at value_of p (key, had)) own
 
   pub given_fits : UpTo (p.Leq key.pred.arity) given given
   given_fits =
       subst (λ (a : Option Abs). UpTo (p.Leq key.pred.arity) a a) (sym evaluation.answer)
-      (answer_fits (as_domain p) (as_program p program) (lawful_at p laws program good) (rows_of value_of p old) making.made (row_at value_of p (key, had)) own clause inside)
+      (answer_fits (as_domain p) (as_program p program) (lawful_at p laws program good) (rows_of value_of p old) making.made (row_at value_of p (key, had))
+      own clause inside)
 
   -- Theorem: a clause is worked in by a step, and where that changes nothing the clause is quiet.
   pub clause_works : (mid : List (Key V × Option V)) (added : Bool) → AddsAll V value_of limit called old mid added
@@ -96,7 +128,8 @@ module _ (V : Type 0) (value_of : V → Abs) (p : PlainDomain) (laws : IsLawful 
       let first : IsStep p program limit (rows_of value_of p old) (rows_of value_of p mid) (change_of added) =
       adds_step V value_of p program limit called (rows_of value_of p old) making.made asked old mid making added all in
       let (second, joined) = raised V value_of p laws program good limit (rows_of value_of p old) making.made mid first.making index key had
-      (adds_at V value_of limit called old all.adds index (key, had) at) clause inside given evaluation.answer (option_map value_of had) given refl refl had_fits given_fits new change raises in
+      (adds_at V value_of limit called old all.adds index (key, had) at) clause inside given evaluation.answer (option_map value_of had) given refl refl
+      had_fits given_fits new change raises in
       let here : source_of (as_domain p) (rows_of value_of p old) key.pred (value_of key.call) ≡ option_map value_of had =
       lookup_row (as_domain p) (as_program p program) tl (rows_of value_of p old) making.distinct (row_at value_of p (key, had)) own in (
         step_then p program limit (rows_of value_of p old) (rows_of value_of p mid) (rows_of value_of p new) (change_of added) change first second,
@@ -104,38 +137,46 @@ module _ (V : Type 0) (value_of : V → Abs) (p : PlainDomain) (laws : IsLawful 
             let (e, f) = both_nothing (change_of added) change none in
             record {
               calls = λ y i. has_name p (rows_of value_of p old) y
-                  (subst (IsIn y) (sym (names_same value_of p old)) (subst (λ (es : List (Key V × Option V)). IsIn y (names_in value_of es)) (all.same (not_added added e))
+                  (subst (IsIn y) (sym (names_same value_of p old))
+                  (subst (λ (es : List (Key V × Option V)). IsIn y (names_in value_of es)) (all.same (not_added added e))
                   (all.all y (subst (IsIn y) (sym evaluation.calls) i))));
-              answer = subst (λ (o : Option Abs). join_of (as_domain p) o (answer_of (as_domain p) (source_of (as_domain p) (rows_of value_of p old)) clause (value_of key.call)) ≡ o) (sym here)
+              answer = subst (λ (o : Option Abs). join_of (as_domain p) o
+                  (answer_of (as_domain p) (source_of (as_domain p) (rows_of value_of p old)) clause (value_of key.call)) ≡ o) (sym here)
                   (subst (λ (a : Option Abs). join_of (as_domain p) (option_map value_of had) a ≡ option_map value_of had) evaluation.answer (joined f));
               within = evaluation.within;
             },
       )
 
 -- the entry of a key
-pub entry_at : {V : Type 0} (entries : List (Key V × Option V)) (index : ℕ) (key : Key V) → slice_get (map (λ (e : Key V × Option V). e.0) entries) index ≡ Some key
+pub entry_at : {V : Type 0} (entries : List (Key V × Option V)) (index : ℕ) (key : Key V)
+    → slice_get (map (λ (e : Key V × Option V). e.0) entries) index ≡ Some key
     → (had : Option V) × (slice_get entries index ≡ Some (key, had))
 entry_at [] index key e = cc
 entry_at (r ∷ entries) zero key e = let same : r.0 ≡ key = cc in (r.1, λ i. Some (same i, r.1))
 entry_at (r ∷ entries) (suc index) key e = entry_at entries index key e
 
-pub at_name : {V : Type 0} (value_of : V → Abs) (p : PlainDomain) (entries : List (Key V × Option V)) (index : ℕ) (key : Key V) (had : Option V) → slice_get entries index ≡ Some (key, had)
+pub at_name : {V : Type 0} (value_of : V → Abs) (p : PlainDomain) (entries : List (Key V × Option V)) (index : ℕ) (key : Key V) (had : Option V)
+    → slice_get entries index ≡ Some (key, had)
     → IsAt p (rows_of value_of p entries) index (key_name value_of key)
 at_name value_of p entries index key had e =
-    get_map (λ (r : Row (as_domain p)). r.name) (rows_of value_of p entries) index (row_at value_of p (key, had)) (get_map (row_at value_of p) entries index (key, had) e)
+    get_map (λ (r : Row (as_domain p)). r.name) (rows_of value_of p entries) index (row_at value_of p (key, had))
+    (get_map (row_at value_of p) entries index (key, had) e)
 
 pub one_name : (p : PlainDomain) (rows : List (Row (as_domain p))) (index : ℕ) (x y : Name PredKey Abs) → IsAt p rows index x → IsAt p rows index y → x ≡ y
 one_name p rows index x y e f = let g : Some x ≡ Some y = sym e ∙ f in cc
 
-pub own_row : {V : Type 0} (value_of : V → Abs) (p : PlainDomain) (entries : List (Key V × Option V)) (index : ℕ) (key : Key V) (had : Option V) → slice_get entries index ≡ Some (key, had)
+pub own_row : {V : Type 0} (value_of : V → Abs) (p : PlainDomain) (entries : List (Key V × Option V)) (index : ℕ) (key : Key V) (had : Option V)
+    → slice_get entries index ≡ Some (key, had)
     → IsIn (row_at value_of p (key, had)) (rows_of value_of p entries)
 own_row value_of p entries index key had at = get_in (rows_of value_of p entries) index _ (get_map (row_at value_of p) entries index (key, had) at)
 
-pub entry_stays : (V : Type 0) (value_of : V → Abs) (limit : ℕ) (names : List (Name PredKey Abs)) (old new : List (Key V × Option V)) → Adds V value_of limit names old new
+pub entry_stays : (V : Type 0) (value_of : V → Abs) (limit : ℕ) (names : List (Name PredKey Abs)) (old new : List (Key V × Option V))
+    → Adds V value_of limit names old new
     → (k : ℕ) (e : Key V × Option V) → slice_get old k ≡ Some e → slice_get new k ≡ Some e
 entry_stays V value_of limit names old new a = adds_at V value_of limit names old a
 
-pub evaluation_as : (p : PlainDomain) (rows : List (Row (as_domain p))) (clause : Clause) (call : Abs) (given given' : Option Abs) (called called' : List (Name PredKey Abs))
+pub evaluation_as : (p : PlainDomain) (rows : List (Row (as_domain p))) (clause : Clause) (call : Abs) (given given' : Option Abs)
+    (called called' : List (Name PredKey Abs))
     → given' ≡ given → called' ≡ called → IsEvaluation p rows clause call given called → IsEvaluation p rows clause call given' called'
 evaluation_as p rows clause call given given' called called' e f h = record { answer = e ∙ h.answer; calls = f ∙ h.calls; within = h.within }
 

@@ -39,13 +39,16 @@ module _ (p q : ProgramView) (e : Edit) (r : Result (Unit {0}) EditFail) where
   leaves : (o : Result ProgramView EditCause) → edited p e ≡ o → Leaves o q r → Leaves (edited p e) q r
   leaves o same h = subst (λ x. Leaves x q r) (sym same) h
 
-  pub leaves-Add : (m : List ℕ) (read : ReadTerm) → e ≡ Add m read → Leaves (and_then (clause_in p.modules m read) (λ c. with_room p (with_clause_of p m c))) q r → Leaves (edited p e) q r
+  pub leaves-Add : (m : List ℕ) (read : ReadTerm) → e ≡ Add m read
+      → Leaves (and_then (clause_in p.modules m read) (λ c. with_room p (with_clause_of p m c))) q r → Leaves (edited p e) q r
   leaves-Add m read is h = leaves _ (ap (edited p) is ∙ done-Add p m read) h
 
-  pub leaves-Entry : (m : List ℕ) (read : ReadTerm) → e ≡ Entry m read → Leaves (and_then (entry_in p.modules m read) (λ c. with_room p (with_entry p c))) q r → Leaves (edited p e) q r
+  pub leaves-Entry : (m : List ℕ) (read : ReadTerm) → e ≡ Entry m read → Leaves (and_then (entry_in p.modules m read) (λ c. with_room p (with_entry p c))) q r
+      → Leaves (edited p e) q r
   leaves-Entry m read is h = leaves _ (ap (edited p) is ∙ done-Entry p m read) h
 
-  pub leaves-Check : (m : List ℕ) (read : ReadTerm) → e ≡ Check m read → Leaves (and_then (check_in p.modules m read) (λ c. with_room p (with_check p c))) q r → Leaves (edited p e) q r
+  pub leaves-Check : (m : List ℕ) (read : ReadTerm) → e ≡ Check m read → Leaves (and_then (check_in p.modules m read) (λ c. with_room p (with_check p c))) q r
+      → Leaves (edited p e) q r
   leaves-Check m read is h = leaves _ (ap (edited p) is ∙ done-Check p m read) h
 
   pub leaves-All : (es items : List Edit) → e ≡ edit.All es → items ≡ es → Leaves (edited_by p items) q r → Leaves (edited p e) q r

@@ -1,5 +1,33 @@
 -- What the terms of entries and assertions say is well formed.
-use Rattle.std.proofs.Common.{◌≡◌, ◌∙◌, ℕ, ◌+◌, ◌≤◌, ◌<◌, Bool, true, false, not, ◌&&◌, cond, Option, Some, None, Result, Ok, Err, List, [], ◌∷◌, length, refl, ap, subst, arith, codes}
+use Rattle.std.proofs.Common.{
+  ◌≡◌,
+  ◌∙◌,
+  ℕ,
+  ◌+◌,
+  ◌≤◌,
+  ◌<◌,
+  Bool,
+  true,
+  false,
+  not,
+  ◌&&◌,
+  cond,
+  Option,
+  Some,
+  None,
+  Result,
+  Ok,
+  Err,
+  List,
+  [],
+  ◌∷◌,
+  length,
+  refl,
+  ap,
+  subst,
+  arith,
+  codes,
+}
 use Rattle.std.specs.Prelude.{All, option_map, option_and_then, position, nat_le, nat_eq}
 use Rattle.std.specs.Cmp.Lexicographic.{pointwise}
 use Rattle.std.proofs.lemmas.Bool.Decides.{nat_tests}
@@ -23,7 +51,33 @@ use Rattle.plai_sources.specs.declared.properties.Call.{Call}
 use Rattle.plai_sources.specs.declared.items.EntryItem.{EntryItem}
 use Rattle.plai_sources.specs.declared.items.CheckItem.{CheckItem}
 use Rattle.plai_sources.specs.Shapes.{variable_of, one_argument, each}
-use Rattle.plai_sources.specs.Properties.{are_distinct, open_goal, goal_at, goal_in, goal_of, place_among, place_of, property_named, apart, property_at, property_in, property_of, properties_of, call, call_with, call_from, call_of, entry, entry_of, check, calls_of, success_with, success_of, check_from, check_of}
+use Rattle.plai_sources.specs.Properties.{
+  are_distinct,
+  open_goal,
+  goal_at,
+  goal_in,
+  goal_of,
+  place_among,
+  place_of,
+  property_named,
+  apart,
+  property_at,
+  property_in,
+  property_of,
+  properties_of,
+  call,
+  call_with,
+  call_from,
+  call_of,
+  entry,
+  entry_of,
+  check,
+  calls_of,
+  success_with,
+  success_of,
+  check_from,
+  check_of,
+}
 use Rattle.plai_sources.specs.WellFormed.{IsEntryItem, IsCheckItem}
 use Rattle.plai_sources.proofs.Each.{length-each, All-each}
 use Rattle.plai_script.specs.Edits.{entry_said, check_said}
@@ -92,9 +146,11 @@ place_of-within vs t p h =
 
 named-within : (n : ℕ) (name : List ℕ) (place : ℕ) (p : Prop) → (1 ≤ place) × (place ≤ n) → property_named name place ≡ Some p → speaks_within n p
 named-within n name place p h e =
-    first (pointwise nat_eq name (codes "ground")) (pointwise nat_eq name (codes "var")) (pointwise nat_eq name (codes "nonvar")) (pointwise nat_eq name (codes "int")) e
+    first (pointwise nat_eq name (codes "ground")) (pointwise nat_eq name (codes "var")) (pointwise nat_eq name (codes "nonvar"))
+    (pointwise nat_eq name (codes "int")) e
   where
-    first : (a b c d : Bool) → cond a (Some (property.Ground place)) (cond b (Some (property.Var place)) (cond c (Some (property.Nonvar place)) (cond d (Some (property.Int place)) None))) ≡ Some p → speaks_within n p
+    first : (a b c d : Bool) → cond a (Some (property.Ground place))
+        (cond b (Some (property.Var place)) (cond c (Some (property.Nonvar place)) (cond d (Some (property.Int place)) None))) ≡ Some p → speaks_within n p
     first true b c d e = let is : property.Ground place ≡ p = cc in subst (speaks_within n) is h
     first false true c d e = let is : property.Var place ≡ p = cc in subst (speaks_within n) is h
     first false false true d e = let is : property.Nonvar place ≡ p = cc in subst (speaks_within n) is h
@@ -112,7 +168,8 @@ property_at-within vs name (x ∷ []) p h =
     let (i, place, named) = chained (property_named name) (place_of vs x) p h in
     named-within (length vs) name i p (place_of-within vs x i place) named
 property_at-within vs name (x ∷ y ∷ []) p h =
-    let (is, rest) = passed (pointwise nat_eq name (codes "indep")) (option_and_then (λ first. option_and_then (apart first) (place_of vs y)) (place_of vs x)) p h in
+    let (is, rest) = passed (pointwise nat_eq name (codes "indep"))
+    (option_and_then (λ first. option_and_then (apart first) (place_of vs y)) (place_of vs x)) p h in
     let (i, one, others) = chained (λ first. option_and_then (apart first) (place_of vs y)) (place_of vs x) p rest in
     let (j, other, both) = chained (apart i) (place_of vs y) p others in
     apart-within (length vs) i j p (place_of-within vs x i one) (place_of-within vs y j other) both
@@ -150,7 +207,8 @@ entry_of-formed t e h =
     let f = call_from-formed t (two_arguments (codes ":") t) c made in
     subst IsEntryItem is (record { definable = f.defined; few = definable-few c.goal.name (length c.goal.variables) f.defined; pre = f.pre })
 
-check-formed : (kind : CheckKind) (c : Call) (post : List Prop) → IsFormed c → All (speaks_within (length c.goal.variables)) post → IsCheckItem (check kind c post)
+check-formed : (kind : CheckKind) (c : Call) (post : List Prop) → IsFormed c → All (speaks_within (length c.goal.variables)) post
+    → IsCheckItem (check kind c post)
 check-formed kind c post f all = record { definable = f.defined; few = definable-few c.goal.name (length c.goal.variables) f.defined; pre = f.pre; post = all }
 
 calls_of-formed : (t : Term) (e : CheckItem) → calls_of t ≡ Some e → IsCheckItem e
@@ -164,7 +222,8 @@ success_of-formed t e h =
     let (p, two, rest) = chained success_with (two_arguments (codes "=>") t) e h in
     let (c, made, more) = chained (λ c. option_map (check Success c) (properties_of c.goal.variables p.1)) (call_of p.0) e rest in
     let (post, all, is) = mapped (check Success c) (properties_of c.goal.variables p.1) e more in
-    subst IsCheckItem is (check-formed Success c post (call_from-formed p.0 (two_arguments (codes ":") p.0) c made) (properties_of-within c.goal.variables p.1 post all))
+    subst IsCheckItem is (check-formed Success c post (call_from-formed p.0 (two_arguments (codes ":") p.0) c made)
+    (properties_of-within c.goal.variables p.1 post all))
 
 check_from-formed : (calls success : Option Term) (e : CheckItem) → check_from calls success ≡ Some e → IsCheckItem e
 check_from-formed (Some t) success e h = calls_of-formed t e h
@@ -180,22 +239,26 @@ abbrev IsFormedCheck : Result Check EditCause → Type 0
 IsFormedCheck (Ok x) = IsWellFormedCheck x
 IsFormedCheck (Err c) = Unit {0}
 
-entry_formed : (m : List ℕ) (imports : List (List ℕ × ℕ × List ℕ)) (t : Term) (o : Option EntryItem) (e : Entry) → entry_of t ≡ o → entry_said m imports o ≡ Ok e → IsWellFormedEntry e
+entry_formed : (m : List ℕ) (imports : List (List ℕ × ℕ × List ℕ)) (t : Term) (o : Option EntryItem) (e : Entry) → entry_of t ≡ o
+    → entry_said m imports o ≡ Ok e → IsWellFormedEntry e
 entry_formed m imports t None e is h = absurd cc
 entry_formed m imports t (Some i) e is h =
     let item = entry_of-formed t i is in
     let p : entry_said m imports (Some i) ≡ Ok e = h in
     subst (λ (r : Result Entry EditCause). IsFormedEntry r) p (record { few = item.few; pre = item.pre })
 
-pub entry_said-formed : (m : List ℕ) (imports : List (List ℕ × ℕ × List ℕ)) (t : Term) (e : Entry) → entry_said m imports (entry_of t) ≡ Ok e → IsWellFormedEntry e
+pub entry_said-formed : (m : List ℕ) (imports : List (List ℕ × ℕ × List ℕ)) (t : Term) (e : Entry) → entry_said m imports (entry_of t) ≡ Ok e
+    → IsWellFormedEntry e
 entry_said-formed m imports t e h = entry_formed m imports t (entry_of t) e refl h
 
-check_formed : (m : List ℕ) (imports : List (List ℕ × ℕ × List ℕ)) (t : Term) (o : Option CheckItem) (c : Check) → check_of t ≡ o → check_said m imports o ≡ Ok c → IsWellFormedCheck c
+check_formed : (m : List ℕ) (imports : List (List ℕ × ℕ × List ℕ)) (t : Term) (o : Option CheckItem) (c : Check) → check_of t ≡ o
+    → check_said m imports o ≡ Ok c → IsWellFormedCheck c
 check_formed m imports t None c is h = absurd cc
 check_formed m imports t (Some i) c is h =
     let item = check_from-formed (one_argument (codes "calls") t) (one_argument (codes "success") t) i is in
     let p : check_said m imports (Some i) ≡ Ok c = h in
     subst (λ (r : Result Check EditCause). IsFormedCheck r) p (record { few = item.few; pre = item.pre; post = item.post })
 
-pub check_said-formed : (m : List ℕ) (imports : List (List ℕ × ℕ × List ℕ)) (t : Term) (c : Check) → check_said m imports (check_of t) ≡ Ok c → IsWellFormedCheck c
+pub check_said-formed : (m : List ℕ) (imports : List (List ℕ × ℕ × List ℕ)) (t : Term) (c : Check) → check_said m imports (check_of t) ≡ Ok c
+    → IsWellFormedCheck c
 check_said-formed m imports t c h = check_formed m imports t (check_of t) c refl h

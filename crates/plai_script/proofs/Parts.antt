@@ -1,5 +1,36 @@
 -- The parts of a term that was read, and the terms of the edit that it is.
-use Rattle.std.proofs.Common.{◌≡◌, ◌∙◌, ℕ, ◌<◌, ◌^◌, ℤ, Bool, true, false, ◌||◌, ◌&&◌, cond, nat_eq, Option, Some, None, List, [], ◌∷◌, ◌++◌, map, flat_map, length, refl, sym, ap, subst, rules, codes, Bor}
+use Rattle.std.proofs.Common.{
+  ◌≡◌,
+  ◌∙◌,
+  ℕ,
+  ◌<◌,
+  ◌^◌,
+  ℤ,
+  Bool,
+  true,
+  false,
+  ◌||◌,
+  ◌&&◌,
+  cond,
+  nat_eq,
+  Option,
+  Some,
+  None,
+  List,
+  [],
+  ◌∷◌,
+  ◌++◌,
+  map,
+  flat_map,
+  length,
+  refl,
+  sym,
+  ap,
+  subst,
+  rules,
+  codes,
+  Bor,
+}
 use Rattle.std.specs.Prelude.{All, nat_lt, option_map, option_and_then}
 use Rattle.std.specs.List.{list_any, list_all, AllByRecursion}
 use Rattle.std.specs.Cmp.Lexicographic.{pointwise}
@@ -15,7 +46,21 @@ use Rattle.plai_sources.proofs.ListTerms.{list_items-cell, list_items-end}
 use Rattle.plai_script.specs.declared.edit.Edit.{Edit, Add, Del, Drop, Entry, Unentry, Check, Uncheck, the_lemmas as edit_lemmas}
 use Rattle.plai_script.specs.declared.edit.Edit as edit
 use Rattle.plai_script.specs.OwnTerms.{own_term}
-use Rattle.plai_script.specs.Shapes.{integer_of, key_of, of_term, of_number, drop, del, edit_of_two, edit_of_three, single_at, single_of, all_of, edit_from, edit_of_term}
+use Rattle.plai_script.specs.Shapes.{
+  integer_of,
+  key_of,
+  of_term,
+  of_number,
+  drop,
+  del,
+  edit_of_two,
+  edit_of_three,
+  single_at,
+  single_of,
+  all_of,
+  edit_from,
+  edit_of_term,
+}
 use Rattle.plai_script.specs.Readable.{IsPart, terms_of, IsReadableEdit}
 use Rattle.plai_script.proofs.Variables.{own_readable}
 
@@ -37,7 +82,8 @@ neither true q e = absurd cc
 neither false q e = (refl, e)
 
 module _ (n : ℕ) where
-  parts_in : (args : List Term) → list_all (λ b. b) (map (has_variables_below n) args) ≡ true → list_any (λ b. b) (map is_wide args) ≡ false → AllByRecursion (IsPart n) args
+  parts_in : (args : List Term) → list_all (λ b. b) (map (has_variables_below n) args) ≡ true → list_any (λ b. b) (map is_wide args) ≡ false
+      → AllByRecursion (IsPart n) args
   parts_in [] h k = tt
   parts_in (a ∷ args) h k =
       let (one, rest) = both_true (has_variables_below n a) (list_all (λ b. b) (map (has_variables_below n) args)) h in
@@ -88,7 +134,8 @@ module _ (n : ℕ) where
   at_end : (t : Term) (xs : List Term) → two_arguments (codes ".") t ≡ None → list_items t ≡ Some xs → AllByRecursion (IsPart n) xs
   at_end t xs none e = ends (is_nil t) xs (sym (list_items-end t none) ∙ e)
 
-  two_parts : (args : List Term) → AllByRecursion (IsPart n) args → AllByRecursion HasItems args → (head tail : Term) → two args ≡ Some (head, tail) → IsPart n head × IsPart n tail × HasItems tail
+  two_parts : (args : List Term) → AllByRecursion (IsPart n) args → AllByRecursion HasItems args → (head tail : Term) → two args ≡ Some (head, tail)
+      → IsPart n head × IsPart n tail × HasItems tail
   two_parts [] p h head tail e = absurd cc
   two_parts (x ∷ []) p h head tail e = absurd cc
   two_parts (x ∷ y ∷ []) p h head tail e =
@@ -102,7 +149,8 @@ module _ (n : ℕ) where
   named true args p e = e
   named false args p e = absurd cc
 
-  in_cell : (t : Term) (o : Option (Term × Term)) (xs : List Term) → two_arguments (codes ".") t ≡ o → ((head tail : Term) → o ≡ Some (head, tail) → IsPart n head × IsPart n tail × HasItems tail)
+  in_cell : (t : Term) (o : Option (Term × Term)) (xs : List Term) → two_arguments (codes ".") t ≡ o
+      → ((head tail : Term) → o ≡ Some (head, tail) → IsPart n head × IsPart n tail × HasItems tail)
       → list_items t ≡ Some xs → AllByRecursion (IsPart n) xs
   in_cell t None xs is h e = at_end t xs is e
   in_cell t (Some p) xs is h e =
@@ -125,7 +173,8 @@ module _ (n : ℕ) where
   now_parts [] h = All-nil (λ (x : Bor Term). IsPart n x.now)
   now_parts (x ∷ v) h = All-cons (λ (y : Bor Term). IsPart n y.now) x v h.0 (now_parts v h.1)
 
-  pub items_now : (t : Term) (v w : List (Bor Term)) → IsPart n t → list_items t ≡ Some (map (λ (x : Bor Term). x.now) v) → w ≡ v → All (λ (x : Bor Term). IsPart n x.now) w
+  pub items_now : (t : Term) (v w : List (Bor Term)) → IsPart n t → list_items t ≡ Some (map (λ (x : Bor Term). x.now) v) → w ≡ v
+      → All (λ (x : Bor Term). IsPart n x.now) w
   items_now t v w p e s = subst (All (λ (x : Bor Term). IsPart n x.now)) (sym s) (now_parts v (items_parts t (map (λ (x : Bor Term). x.now) v) p e))
 
 -- the terms of an edit
@@ -177,12 +226,14 @@ none_readable : (e : Edit) → terms_of e ≡ [] → HasReadable e
 none_readable e is = subst (AllByRecursion IsReadable) (sym is) tt
 
 module _ (n : ℕ) (lt : n < 2 ^ 31) where
-  term_readable : (make : List ℕ → ReadTerm → Edit) (m t : Term) (e : Edit) → ((name : List ℕ) (r : ReadTerm) → terms_of (make name r) ≡ r ∷ []) → IsPart n t → of_term make m t ≡ Some e → HasReadable e
+  term_readable : (make : List ℕ → ReadTerm → Edit) (m t : Term) (e : Edit) → ((name : List ℕ) (r : ReadTerm) → terms_of (make name r) ≡ r ∷ []) → IsPart n t
+      → of_term make m t ≡ Some e → HasReadable e
   term_readable make m t e terms part h =
       let (name, home, is) = mapped (λ name. make name (own_term t)) (atom_of m) e h in
       subst HasReadable is (one_readable (make name (own_term t)) (own_term t) (terms name (own_term t)) (own_readable n t lt part))
 
-  number_readable : (make : List ℕ → ℤ → Edit) (m t : Term) (e : Edit) → ((name : List ℕ) (z : ℤ) → terms_of (make name z) ≡ []) → of_number make m t ≡ Some e → HasReadable e
+  number_readable : (make : List ℕ → ℤ → Edit) (m t : Term) (e : Edit) → ((name : List ℕ) (z : ℤ) → terms_of (make name z) ≡ []) → of_number make m t ≡ Some e
+      → HasReadable e
   number_readable make m t e terms h =
       let (name, home, rest) = chained (λ name. option_map (make name) (integer_of t)) (atom_of m) e h in
       let (z, number, is) = mapped (make name) (integer_of t) e rest in
@@ -208,7 +259,8 @@ module _ (n : ℕ) (lt : n < 2 ^ 31) where
       (pointwise nat_eq name (codes "unentry")) (pointwise nat_eq name (codes "check")) (pointwise nat_eq name (codes "uncheck")) h
     where
       cases : (a b c d f g : Bool)
-          → cond a (of_term Add m t) (cond b (drop m t) (cond c (of_term Entry m t) (cond d (of_number Unentry m t) (cond f (of_term Check m t) (cond g (of_number Uncheck m t) None))))) ≡ Some e
+          → cond a (of_term Add m t) (cond b (drop m t)
+          (cond c (of_term Entry m t) (cond d (of_number Unentry m t) (cond f (of_term Check m t) (cond g (of_number Uncheck m t) None))))) ≡ Some e
           → HasReadable e
       cases true b c d f g h = term_readable Add m t e terms-Add part h
       cases false true c d f g h = drop_readable m t e h
@@ -245,7 +297,8 @@ module _ (n : ℕ) (lt : n < 2 ^ 31) where
       let is : single_of (Compound name args) ≡ single_at name args = search (rules, the_lemmas) in
       at_readable name args e (parts n name args p) (sym is ∙ h))
 
-  each_readable : (ts : List Term) (es : List Edit) → AllByRecursion (IsPart n) ts → each single_of ts ≡ Some es → AllByRecursion IsReadable (flat_map terms_of es)
+  each_readable : (ts : List Term) (es : List Edit) → AllByRecursion (IsPart n) ts → each single_of ts ≡ Some es
+      → AllByRecursion IsReadable (flat_map terms_of es)
   each_readable [] es p h = let same : [] ≡ es = cc in subst (λ (xs : List Edit). AllByRecursion IsReadable (flat_map terms_of xs)) same tt
   each_readable (t ∷ ts) es p h =
       let (e, one, rest) = chained (λ y. option_map (λ ys. y ∷ ys) (each single_of ts)) (single_of t) es h in

@@ -1,5 +1,35 @@
 -- The terms of a script, one at a time.
-use Rattle.std.proofs.Common.{◌≡◌, ◌∙◌, ℕ, ◌+◌, Bool, true, false, cond, Option, Some, None, Result, Ok, Err, Vec, Global, List, [], ◌∷◌, ◌++◌, map, length, append_assoc, append-nil, refl, sym, ap, subst, arith}
+use Rattle.std.proofs.Common.{
+  ◌≡◌,
+  ◌∙◌,
+  ℕ,
+  ◌+◌,
+  Bool,
+  true,
+  false,
+  cond,
+  Option,
+  Some,
+  None,
+  Result,
+  Ok,
+  Err,
+  Vec,
+  Global,
+  List,
+  [],
+  ◌∷◌,
+  ◌++◌,
+  map,
+  length,
+  append_assoc,
+  append-nil,
+  refl,
+  sym,
+  ap,
+  subst,
+  arith,
+}
 use Rattle.plai_lex.specs.declared.token.Token.{Token}
 use Rattle.plai_lex.specs.Tokens.{Failure, Tokens, tokens_of, with_tokens}
 use Rattle.plai_reader.specs.Roles.{is_end}
@@ -16,7 +46,8 @@ use Rattle.plai_script.specs.Scripts.{ScriptRefusal, item_of, last_items, script
 use Rattle.plai_script.specs.Answering.{AnswersScript, behind, ended_by, Stops, TakesTerm}
 
 -- tokens before a full stop, and the full stop
-with_one : (b : Bool) (x : Token) (s : Split) (e : b ≡ false) → cond b (record { terms = (x ∷ []) ∷ s.terms; rest = s.rest }) (with_first x s.terms s.rest) ≡ with_first x s.terms s.rest
+with_one : (b : Bool) (x : Token) (s : Split) (e : b ≡ false)
+    → cond b (record { terms = (x ∷ []) ∷ s.terms; rest = s.rest }) (with_first x s.terms s.rest) ≡ with_first x s.terms s.rest
 with_one false x s e = refl
 with_one true x s e = absurd cc
 
@@ -37,7 +68,8 @@ module _ (number : ℕ) (tokens : List Token) where
       let n : number + length (tokens ∷ s.terms) ≡ number + 1 + length s.terms = omega arith in
       ap (λ k. let r : ScriptRefusal = record { term = k; cause = f.cause; at = f.at } in Err r) n
 
-  takes_term : (left : Tokens) → IsWhole tokens → script_of_tokens number (with_tokens tokens left) ≡ behind (item_of tokens ∷ []) (script_of_tokens (number + 1) left)
+  takes_term : (left : Tokens) → IsWhole tokens
+      → script_of_tokens number (with_tokens tokens left) ≡ behind (item_of tokens ∷ []) (script_of_tokens (number + 1) left)
   takes_term left w =
       let same : split (tokens ++ left.tokens) ≡ record { terms = tokens ∷ (split left.tokens).terms; rest = (split left.tokens).rest } =
       ap (λ ts. split (ts ++ left.tokens)) w.is ∙ split-whole w.before w.last left.tokens w.inside w.ends
@@ -50,7 +82,8 @@ behind_both items x (Ok xs) = ap (λ l. Ok l) (sym (append_assoc items (x ∷ []
 behind_both items x (Err r) = refl
 
 -- one more term is read
-pub goes_on : (whole : Result (List (Result Edit EditCause)) ScriptRefusal) (items after : List (Result Edit EditCause)) (number : ℕ) (left new : Tokens) (tokens : List Token) (x : Result Edit EditCause)
+pub goes_on : (whole : Result (List (Result Edit EditCause)) ScriptRefusal) (items after : List (Result Edit EditCause)) (number : ℕ) (left new : Tokens)
+    (tokens : List Token) (x : Result Edit EditCause)
     → whole ≡ behind items (script_of_tokens number left) → IsWhole tokens → left ≡ with_tokens tokens new → x ≡ item_of tokens → after ≡ items ++ x ∷ []
     → whole ≡ behind after (script_of_tokens (number + 1) new)
 goes_on whole items after number left new tokens x e w t i a =
@@ -72,7 +105,8 @@ module _ (number : ℕ) where
       let is : load.Syntax ≡ cause = cc in
       ap (λ l. Ok (map item_of l ++ last_items (x ∷ xs))) e ∙ ap (ended_by number) is
 
-  pub take_found : (old new : Tokens) (items : List (Result Edit EditCause)) (found : Option (Vec Token Global)) → Takes old new (Ok found) → TakesTerm number old new items items (Ok found)
+  pub take_found : (old new : Tokens) (items : List (Result Edit EditCause)) (found : Option (Vec Token Global)) → Takes old new (Ok found)
+      → TakesTerm number old new items items (Ok found)
   take_found old new items (Some v) t = (t.0, t.1, refl)
   take_found old new items None t = ap (λ o. behind items (script_of_tokens number o)) t ∙ ap (λ l. Ok l) (append-nil items)
 
@@ -90,14 +124,17 @@ behind_none : (r : Result (List (Result Edit EditCause)) ScriptRefusal) → behi
 behind_none (Ok xs) = refl
 behind_none (Err r) = refl
 
-pub begins : (text : List ℕ) (tokens : Tokens) (items : List (Result Edit EditCause)) → tokens ≡ tokens_of text → items ≡ [] → script_of text ≡ behind items (script_of_tokens 1 tokens)
+pub begins : (text : List ℕ) (tokens : Tokens) (items : List (Result Edit EditCause)) → tokens ≡ tokens_of text → items ≡ []
+    → script_of text ≡ behind items (script_of_tokens 1 tokens)
 unfolding script_of
 begins text tokens items e f =
     ap (script_of_tokens 1) (sym e) ∙ sym (behind_none (script_of_tokens 1 tokens)) ∙ ap (λ l. behind l (script_of_tokens 1 tokens)) (sym f)
 
 -- a place without a token
-pub refused_script : (whole : Result (List (Result Edit EditCause)) ScriptRefusal) (number : ℕ) (old new : Tokens) (before after : List (Result Edit EditCause)) (fail : ScriptFail) (res : Result (Vec (Result Edit EditCause) Global) ScriptFail)
-    → whole ≡ behind before (script_of_tokens number old) → TakesTerm number old new before after (Err fail) → (y : ScriptFail) × (res ≡ Err y) × (y ≡ fail) → AnswersScript whole res
+pub refused_script : (whole : Result (List (Result Edit EditCause)) ScriptRefusal) (number : ℕ) (old new : Tokens)
+    (before after : List (Result Edit EditCause)) (fail : ScriptFail) (res : Result (Vec (Result Edit EditCause) Global) ScriptFail)
+    → whole ≡ behind before (script_of_tokens number old) → TakesTerm number old new before after (Err fail) → (y : ScriptFail) × (res ≡ Err y) × (y ≡ fail)
+    → AnswersScript whole res
 refused_script whole number old new before after script.Memory res e t q =
     let is : res ≡ Err script.Memory = q.1 ∙ ap (λ f. Err f) q.2 in subst (AnswersScript whole) (sym is) tt
 refused_script whole number old new before after (script.Lex n c at) res e t q =

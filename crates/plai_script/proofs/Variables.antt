@@ -1,5 +1,36 @@
 -- The variables of a term, each once, and the term over their places.
-use Rattle.std.proofs.Common.{◌≡◌, ◌∙◌, ℕ, ◌+◌, ◌<◌, ◌≤◌, ◌^◌, Bool, true, false, ◌||◌, ◌&&◌, cond, nat_eq, List, [], ◌∷◌, ◌++◌, map, flat_map, length, take, get_or, append-nil, refl, sym, ap, subst, arith, rules}
+use Rattle.std.proofs.Common.{
+  ◌≡◌,
+  ◌∙◌,
+  ℕ,
+  ◌+◌,
+  ◌<◌,
+  ◌≤◌,
+  ◌^◌,
+  Bool,
+  true,
+  false,
+  ◌||◌,
+  ◌&&◌,
+  cond,
+  nat_eq,
+  List,
+  [],
+  ◌∷◌,
+  ◌++◌,
+  map,
+  flat_map,
+  length,
+  take,
+  get_or,
+  append-nil,
+  refl,
+  sym,
+  ap,
+  subst,
+  arith,
+  rules,
+}
 use Rattle.std.specs.Prelude.{nat_lt, unwrap_or, position, Option, Some, None}
 use Rattle.std.specs.List.{list_any, list_all, position_or_len, AllByRecursion, IsDistinct}
 use Rattle.std.proofs.lemmas.Bool.{eqb-true, eq-eqb}
@@ -70,7 +101,8 @@ module _ (n : ℕ) where
   abbrev IsCounted : Term → Type 0
   IsCounted t = has_variables_below n t ≡ list_all (below n) (occurrences t)
 
-  all_counted : (args : List Term) → AllByRecursion IsCounted args → list_all (λ b. b) (map (has_variables_below n) args) ≡ list_all (below n) (flat_map occurrences args)
+  all_counted : (args : List Term) → AllByRecursion IsCounted args
+      → list_all (λ b. b) (map (has_variables_below n) args) ≡ list_all (below n) (flat_map occurrences args)
   all_counted [] h = refl
   all_counted (a ∷ args) h =
       ap (λ b. b && list_all (λ c. c) (map (has_variables_below n) args)) h.0
@@ -116,7 +148,8 @@ member f q (x ∷ xs) h k =
 turned : (u v : ℕ) → nat_eq u v ≡ false → nat_eq v u ≡ false
 turned u v e = by_test (nat_eq v u) (λ k. let same = eq-eqb u v (sym (eqb-true v u k)) in absurd cc) (λ k. k)
 
-apart_push : (u v : ℕ) (xs : List ℕ) → AllByRecursion (λ y. nat_eq u y ≡ false) xs → nat_eq u v ≡ false → AllByRecursion (λ y. nat_eq u y ≡ false) (xs ++ v ∷ [])
+apart_push : (u v : ℕ) (xs : List ℕ) → AllByRecursion (λ y. nat_eq u y ≡ false) xs → nat_eq u v ≡ false
+    → AllByRecursion (λ y. nat_eq u y ≡ false) (xs ++ v ∷ [])
 apart_push u v [] h e = (e, tt)
 apart_push u v (x ∷ xs) h e = (h.0, apart_push u v xs h.1 e)
 
@@ -199,7 +232,8 @@ module _ (vs : List ℕ) where
   args_placed (a ∷ args) h k =
       let (one, rest) = both_true (list_all (has vs) (occurrences a)) (list_all (has vs) (flat_map occurrences args))
       (sym (list_all-append (has vs) (occurrences a) (flat_map occurrences args)) ∙ k) in
-      are_both (has_variables_below (length vs) (under (numbered vs) a)) (list_all (λ b. b) (map (has_variables_below (length vs)) (map (under (numbered vs)) args)))
+      are_both (has_variables_below (length vs) (under (numbered vs) a))
+      (list_all (λ b. b) (map (has_variables_below (length vs)) (map (under (numbered vs)) args)))
       (h.0 one) (args_placed args h.1 rest)
 
   all_placed : (t : Term) → IsPlaced t
@@ -207,7 +241,8 @@ module _ (vs : List ℕ) where
       (λ v h.
       let one : occurrences (Var v) ≡ v ∷ [] = search (rules, the_lemmas) in
       let is : under (numbered vs) (Var v) ≡ Var (unwrap_or (position (nat_eq v) vs) 0) = search (rules, the_lemmas) in
-      let test : has_variables_below (length vs) (Var (unwrap_or (position (nat_eq v) vs) 0)) ≡ nat_lt (unwrap_or (position (nat_eq v) vs) 0) (length vs) = search (rules, the_lemmas) in
+      let test : has_variables_below (length vs) (Var (unwrap_or (position (nat_eq v) vs) 0)) ≡ nat_lt (unwrap_or (position (nat_eq v) vs) 0) (length vs) =
+      search (rules, the_lemmas) in
       let (there, _) = both_true (has vs v) true (sym (ap (list_all (has vs)) one) ∙ h) in
       let lt = place_of v vs there in
       let yes : nat_lt (unwrap_or (position (nat_eq v) vs) 0) (length vs) ≡ true = grind (arith, nat_tests) in
@@ -238,7 +273,8 @@ module _ (vs : List ℕ) where
       ∙ ap (λ bs. nat_lt 255 (length bs) || list_any (λ b. b) bs) (args_as_wide args h)
       ∙ sym (wide-Compound name args))
     where
-      wide-Compound : (name : List ℕ) (args : List Term) → is_wide (Compound name args) ≡ (nat_lt 255 (length (map is_wide args)) || list_any (λ b. b) (map is_wide args))
+      wide-Compound : (name : List ℕ) (args : List Term)
+          → is_wide (Compound name args) ≡ (nat_lt 255 (length (map is_wide args)) || list_any (λ b. b) (map is_wide args))
       wide-Compound name args = search (rules, the_lemmas)
 
 -- a part with variables of its own can be read

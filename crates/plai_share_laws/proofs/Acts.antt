@@ -84,7 +84,8 @@ module _ (head : List Term) (variables : ℕ) (st : StateView) (i : ℕ → Term
   passed_is : map (fill (at_slots head variables i)) args ≡ passed
   passed_is = same_maps (fill (at_slots head variables i)) (under i) args (λ t m. filled head variables i t (argument_low variables args a.below t m))
 
-  like_passed : (n : ℕ) → IsInstance size n (placed size (at_slots head variables i)) → IsLike (arguments size sides (placed size (at_slots head variables i))) (tuple_of passed)
+  like_passed : (n : ℕ) → IsInstance size n (placed size (at_slots head variables i))
+      → IsLike (arguments size sides (placed size (at_slots head variables i))) (tuple_of passed)
   like_passed n wf = subst (λ ts. IsLike (arguments size sides (placed size (at_slots head variables i))) (tuple_of ts)) passed_is
       (arguments_like (length head) size n (at_slots head variables i) wf args low)
 
@@ -163,12 +164,15 @@ module _ (head : List Term) (variables : ℕ) (st : StateView) (i : ℕ → Term
         (subst (λ ts. meaning.Describes (shares_of answer) (tuple_of ts)) (sym (passed_same c same)) answered) in
         let fits : (shares_of answer).slots ≡ length sides =
         k.is_value.order.first.slots ∙ length-map passed (under f) ∙ sym as_many in
-        let e = back_describes size n (later c same) sides v (shares_of answer) (placed size (at_slots head variables i)) (placed size (after c same)) (change_of c)
+        let e = back_describes size n (later c same) sides v (shares_of answer) (placed size (at_slots head variables i)) (placed size (after c same))
+        (change_of c)
         here.value.slots sides_low wf (wf_after c same) here.describes (terms_moved size (at_slots head variables i) c)
         (like_local (tuple_of passed) (arguments size sides (placed size (at_slots head variables i)))
-        (like_sym (arguments size sides (placed size (at_slots head variables i))) (tuple_of passed) (like_passed n wf)) (all_true (length sides)) n (change_of c) (all_local loc))
+        (like_sym (arguments size sides (placed size (at_slots head variables i))) (tuple_of passed) (like_passed n wf)) (all_true (length sides)) n
+        (change_of c) (all_local loc))
         fits there in
-        subst (λ (s : StateView). (next : StateView) × ((sharing.back s args answer).value ≡ Some next) × Speaks sharing head variables next (then_also i f)) (sym here.state)
+        subst (λ (s : StateView). (next : StateView) × ((sharing.back s args answer).value ≡ Some next) × Speaks sharing head variables next (then_also i f))
+        (sym here.state)
         (state_with (length head) variables w, refl, speaks_after c same w (back_value size sides v value (shares_of answer)) e)
 
     some_value : (o : Option Shares) (w : Shares) → IfValue size o → o ≡ Some w → IsValue size w
@@ -190,7 +194,8 @@ module _ (head : List Term) (variables : ℕ) (st : StateView) (i : ℕ → Term
         let (w, e, g) = refine_describes size n (later c same) sides v (placed size (at_slots head variables i)) (placed size (after c same)) (change_of c)
         here.value.slots sides_low wf (wf_after c same) here.describes (terms_moved size (at_slots head variables i) c) action allowed in
         let p = some_value (refine size sides action v) w (refine_value size sides v value action sides_low) e in
-        subst (λ (s : StateView). (next : StateView) × ((sharing.refine s args action).value ≡ Some next) × Speaks sharing head variables next (then_also i f)) (sym here.state)
+        subst (λ (s : StateView). (next : StateView) × ((sharing.refine s args action).value ≡ Some next)
+        × Speaks sharing head variables next (then_also i f)) (sym here.state)
         (state_with (length head) variables w, some_state (length head) variables (refine size sides action v) w e, speaks_after c same w p g)
 
 -- the answer of a clause describes the head's arguments
@@ -219,6 +224,8 @@ acts_exit head variables st i h d =
     first_like : (n m : ℕ) (p : ℕ → Term) → n ≤ m → IsLike (first_terms n (placed m p)) (placed n p)
     first_like n m p l = record {
       occurs = λ w k. by_test (nat_lt k n) (λ t. let b = lower k n t in rw (t, lower_test k m (omega (arith, b, l))) refl) (λ t. rw t refl);
-      variable = λ k y e. by_test (nat_lt k n) (λ t. let b = lower k n t in rw t (rw (t, lower_test k m (omega (arith, b, l))) at e)) (λ t. let g = rw t at e in cc);
-      variable_back = λ k y e. by_test (nat_lt k n) (λ t. let b = lower k n t in rw (t, lower_test k m (omega (arith, b, l))) (rw t at e)) (λ t. let g = rw t at e in cc);
+      variable = λ k y e. by_test (nat_lt k n) (λ t. let b = lower k n t in rw t (rw (t, lower_test k m (omega (arith, b, l))) at e))
+          (λ t. let g = rw t at e in cc);
+      variable_back = λ k y e. by_test (nat_lt k n) (λ t. let b = lower k n t in rw (t, lower_test k m (omega (arith, b, l))) (rw t at e))
+          (λ t. let g = rw t at e in cc);
     }

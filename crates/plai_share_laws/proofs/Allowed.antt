@@ -1,5 +1,37 @@
 -- What an action allows at a list of terms, it allows at their instance.
-use Rattle.std.proofs.Common.{◌≡◌, ◌⊎◌, ℕ, zero, suc, ◌+◌, ◌-◌, ◌<◌, ◌≤◌, Bool, true, false, cond, nat_lt, List, [], ◌∷◌, map, length, Option, Some, None, refl, sym, ap, subst, ◌∙◌, inl, inr, arith, rules}
+use Rattle.std.proofs.Common.{
+  ◌≡◌,
+  ◌⊎◌,
+  ℕ,
+  zero,
+  suc,
+  ◌+◌,
+  ◌-◌,
+  ◌<◌,
+  ◌≤◌,
+  Bool,
+  true,
+  false,
+  cond,
+  nat_lt,
+  List,
+  [],
+  ◌∷◌,
+  map,
+  length,
+  Option,
+  Some,
+  None,
+  refl,
+  sym,
+  ap,
+  subst,
+  ◌∙◌,
+  inl,
+  inr,
+  arith,
+  rules,
+}
 use Rattle.std.specs.List.{list_all, list_any, AllByRecursion}
 use Rattle.std.proofs.lemmas.Bool.{eq-eqb}
 use Rattle.std.proofs.lemmas.Bool.Decides.{nat_tests}
@@ -76,7 +108,8 @@ module _ (n : ℕ) (f : ℕ → Term) (us : List Term) (loc : terms.IsLocal f n 
 abbrev IsClosed : Term → Type 0
 IsClosed t = is_ground t ≡ true → (w : ℕ) → occurs w t ≡ true → ⊥
 
-all_closed : (args : List Term) → AllByRecursion IsClosed args → list_all (λ b. b) (map is_ground args) ≡ true → (w : ℕ) → list_any (λ b. b) (map (occurs w) args) ≡ true → ⊥
+all_closed : (args : List Term) → AllByRecursion IsClosed args → list_all (λ b. b) (map is_ground args) ≡ true → (w : ℕ)
+    → list_any (λ b. b) (map (occurs w) args) ≡ true → ⊥
 all_closed [] h e w o = cc
 all_closed (a ∷ args) h e w o =
     let (p, q) = and_parts (is_ground a) (list_all (λ b. b) (map is_ground args)) e in

@@ -102,10 +102,12 @@ module _ (head : List Term) (variables : ℕ) (h : IsHead (length head) variable
   pub acts_enter : (st : StateView) × ((sharing.enter call head variables).value ≡ Some st) × Speaks sharing head variables st made
   acts_enter =
       let w = enter variables (sides_of (length head) head) v in
-      let known : meaning.Describes v (placed (length head) (term_at ts)) = subst (λ z. meaning.Describes v (placed z (term_at ts))) (sym as_many) (of_pattern call ts d) in
+      let known : meaning.Describes v (placed (length head) (term_at ts)) =
+      subst (λ z. meaning.Describes v (placed z (term_at ts))) (sym as_many) (of_pattern call ts d) in
       let e = enter_terms (length head) n variables (term_at ts) head steps.each v value.slots (omega arith)
       (λ x k l o. below x (in_place x ts k (omega (arith, l, as_many)) o)) (argument_low variables head h.below) known steps.are_solved in (
         state_with (length head) variables w,
         refl,
-        speaks head variables made w (solved steps.each start) (is_shares size w (enter_value (length head) (sides_of (length head) head) v value variables)) same_terms e,
+        speaks head variables made w (solved steps.each start) (is_shares size w (enter_value (length head) (sides_of (length head) head) v value variables))
+            same_terms e,
       )

@@ -1,5 +1,32 @@
 -- The operations describe the instances that functions from variables to terms make.
-use Rattle.std.proofs.Common.{◌≡◌, ℕ, zero, suc, ◌+◌, ◌-◌, ◌<◌, ◌≤◌, Bool, true, false, nat_lt, List, [], ◌∷◌, ◌++◌, map, length, refl, sym, ap, subst, ◌∙◌, inl, inr, arith}
+use Rattle.std.proofs.Common.{
+  ◌≡◌,
+  ℕ,
+  zero,
+  suc,
+  ◌+◌,
+  ◌-◌,
+  ◌<◌,
+  ◌≤◌,
+  Bool,
+  true,
+  false,
+  nat_lt,
+  List,
+  [],
+  ◌∷◌,
+  ◌++◌,
+  map,
+  length,
+  refl,
+  sym,
+  ap,
+  subst,
+  ◌∙◌,
+  inl,
+  inr,
+  arith,
+}
 use Rattle.std.proofs.lemmas.Bool.{and_parts}
 use Rattle.std.proofs.lemmas.List.{length-map, length-append, map-append}
 use Rattle.plai_terms.specs.declared.term.Term.{Term}
@@ -144,7 +171,8 @@ module _ (head : List Term) (variables : ℕ) where
       let a : length (map (under i) head) ≡ length head = length-map head (under i) in
       let b : length (map i (numbers 0 variables)) ≡ variables = length-map (numbers 0 variables) i ∙ length_numbers 0 variables in
       let size : v.slots ≡ length (all_terms i) = value.slots ∙ sym (how_many i) in
-      let e = like_describes v (placed (length head + variables) terms) (placed (length head + variables) (at_slots i)) (placed_like (length head + variables) terms (at_slots i) same) d in
+      let e = like_describes v (placed (length head + variables) terms) (placed (length head + variables) (at_slots i))
+      (placed_like (length head + variables) terms (at_slots i) same) d in
       record {
         is_state = record {
           first_arity = sym a;
@@ -163,7 +191,8 @@ module _ (head : List Term) (variables : ℕ) where
       at_head : k < length head → w < n
       at_head m =
           let m' : k < length (map (under i) head) = subst (λ z. k < z) (sym (length-map head (under i))) m in
-          let e : at_slots i k ≡ under i (term_at head k) = before_at (map (under i) head) (map i (numbers 0 variables)) k m' ∙ term_at-map (under i) head k m in
+          let e : at_slots i k ≡ under i (term_at head k) =
+          before_at (map (under i) head) (map i (numbers 0 variables)) k m' ∙ term_at-map (under i) head k m in
           let (x, p, q) = source i w (term_at head k) (sym (ap (occurs w) e) ∙ o) in
           from x (are_low variables head below x (in_head head k m x p)) w q
         where

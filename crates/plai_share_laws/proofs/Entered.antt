@@ -1,5 +1,34 @@
 -- enter, over terms.
-use Rattle.std.proofs.Common.{◌≡◌, ℕ, zero, suc, ◌+◌, ◌-◌, ◌<◌, ◌≤◌, Bool, true, false, nat_lt, nat_eq, List, [], ◌∷◌, map, length, Some, refl, sym, ap, subst, ◌∙◌, inl, inr, rules, arith}
+use Rattle.std.proofs.Common.{
+  ◌≡◌,
+  ℕ,
+  zero,
+  suc,
+  ◌+◌,
+  ◌-◌,
+  ◌<◌,
+  ◌≤◌,
+  Bool,
+  true,
+  false,
+  nat_lt,
+  nat_eq,
+  List,
+  [],
+  ◌∷◌,
+  map,
+  length,
+  Some,
+  refl,
+  sym,
+  ap,
+  subst,
+  ◌∙◌,
+  inl,
+  inr,
+  rules,
+  arith,
+}
 use Rattle.std.specs.List.{list_any, AllByRecursion}
 use Rattle.std.proofs.lemmas.Bool.{eq-eqb, eqb-true}
 use Rattle.std.proofs.lemmas.Bool.Decides.{nat_tests}
@@ -165,12 +194,15 @@ pub enter_terms : (arity number m : ℕ) (goal : ℕ → Term) (head : List Term
 enter_terms arity number m goal head ss v size few low inside d h =
     let wf = subst (λ z. IsInstance z number (placed arity goal)) (sym size) (terms_wf arity goal number low) in
     let (e, f) = news_describe m number v (placed arity goal) wf d in
-    let is : new_terms v.slots number m (placed arity goal) ≡ new_terms arity number m (placed arity goal) = ap (λ z. new_terms z number m (placed arity goal)) size in
+    let is : new_terms v.slots number m (placed arity goal) ≡ new_terms arity number m (placed arity goal) =
+    ap (λ z. new_terms z number m (placed arity goal)) size in
     let slots : (widen_by m v).slots ≡ arity + m = widened_slots m v ∙ ap (λ z. z + m) size in
     let g = subst (λ (i : Instance). Describes (widen_by m v) i) is e in
     let k = subst (λ (i : Instance). IsInstance (widen_by m v).slots (number + m) i) is f in
-    unified_describes (map (side_of arity) head) 0 (widen_by m v) (placed (arity + m) (start_terms arity number goal)) (placed (arity + m) (solved ss (start_terms arity number goal)))
+    unified_describes (map (side_of arity) head) 0 (widen_by m v) (placed (arity + m) (start_terms arity number goal))
+    (placed (arity + m) (solved ss (start_terms arity number goal)))
     (like_describes (widen_by m v) (new_terms arity number m (placed arity goal)) (placed (arity + m) (start_terms arity number goal))
     (like_start arity number m goal (widen_by m v).slots (number + m) slots k) g)
-    (subst (λ z. IsUnified z 0 (map (side_of arity) head) (placed (arity + m) (start_terms arity number goal)) (placed (arity + m) (solved ss (start_terms arity number goal)))) (sym slots)
+    (subst (λ z. IsUnified z 0 (map (side_of arity) head) (placed (arity + m) (start_terms arity number goal))
+    (placed (arity + m) (solved ss (start_terms arity number goal)))) (sym slots)
     (chain arity (arity + m) head 0 ss (start_terms arity number goal) (omega arith) (λ t i x o. let l = inside t i x o in omega arith) h))

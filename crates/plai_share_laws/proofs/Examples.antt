@@ -68,7 +68,8 @@ two_free_is = refl
 
 abbrev equal_by : List Side → List Side → Option Abs
 equal_by head args =
-    answer (after (Some (state_with 2 2 (enter 2 head (shares_of two_free)))) (λ s. state_from 2 2 (refine 4 args (action.Unify 1 2) (shares_of s.abs)))) (x ∷ y ∷ [])
+    answer (after (Some (state_with 2 2 (enter 2 head (shares_of two_free)))) (λ s. state_from 2 2 (refine 4 args (action.Unify 1 2) (shares_of s.abs))))
+    (x ∷ y ∷ [])
 
 equal_at : equal_by (Slot 2 ∷ Slot 3 ∷ []) (Slot 2 ∷ Slot 3 ∷ []) ≡ Some (Groups 2 (3 ∷ []) 3)
 unfolding meets without
@@ -96,7 +97,8 @@ apart_free_is = refl
 
 abbrev built_by : Abs → List Side → List Side → Option Abs
 built_by a head args =
-    answer (after (Some (state_with 3 3 (enter 3 head (shares_of a)))) (λ s. state_from 3 3 (refine 6 args (action.Unify 1 2) (shares_of s.abs)))) (x ∷ y ∷ z ∷ [])
+    answer (after (Some (state_with 3 3 (enter 3 head (shares_of a)))) (λ s. state_from 3 3 (refine 6 args (action.Unify 1 2) (shares_of s.abs))))
+    (x ∷ y ∷ z ∷ [])
 
 abbrev built : Abs → Option Abs
 built a = answer (after (sharing.enter a (x ∷ y ∷ z ∷ []) 3).value (λ s. (sharing.refine s (x ∷ fyz ∷ []) (action.Unify 1 2)).value)) (x ∷ y ∷ z ∷ [])
@@ -199,7 +201,8 @@ abbrev fvars : Term
 fvars = Compound (codes "f") vars
 
 fvars_sides : sides_of 0 (fvars ∷ []) ≡ Other 15 ∷ []
-fvars_sides = λ i. (side-Compound 0 (codes "f") vars ∙ (λ j. Other (unions (slots-Var 0 0 j ∷ slots-Var 0 1 j ∷ slots-Var 0 2 j ∷ slots-Var 0 3 j ∷ [])))) i ∷ []
+fvars_sides = λ i. (side-Compound 0 (codes "f") vars
+    ∙ (λ j. Other (unions (slots-Var 0 0 j ∷ slots-Var 0 1 j ∷ slots-Var 0 2 j ∷ slots-Var 0 3 j ∷ [])))) i ∷ []
 
 abbrev four : StateView
 four = state_with 0 4 (enter 4 [] (shares_of (Groups 0 [] 0)))

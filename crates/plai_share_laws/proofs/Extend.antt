@@ -1,12 +1,56 @@
 -- The state that is extended by a literal's arguments, and call.
-use Rattle.std.proofs.Common.{◌≡◌, ◌≢◌, ℕ, zero, suc, ◌+◌, ◌-◌, ◌<◌, ◌≤◌, Bool, true, false, nat_eq, nat_lt, List, [], ◌∷◌, length, Some, None, refl, sym, ◌∙◌, ap, subst, inl, inr, arith}
+use Rattle.std.proofs.Common.{
+  ◌≡◌,
+  ◌≢◌,
+  ℕ,
+  zero,
+  suc,
+  ◌+◌,
+  ◌-◌,
+  ◌<◌,
+  ◌≤◌,
+  Bool,
+  true,
+  false,
+  nat_eq,
+  nat_lt,
+  List,
+  [],
+  ◌∷◌,
+  length,
+  Some,
+  None,
+  refl,
+  sym,
+  ◌∙◌,
+  ap,
+  subst,
+  inl,
+  inr,
+  arith,
+}
 use Rattle.std.proofs.lemmas.Bool.{eq-eqb, eqb-true}
 use Rattle.std.proofs.lemmas.Bool.Decides.{nat_tests}
 use Rattle.plai_share_laws.proofs.Members.{IsIn, mask_from}
 use Rattle.plai_share_laws.specs.Groups.{meets}
 use Rattle.plai_share_laws.specs.Shares.{Shares, Side, Slot, Other, slots_of, unify, widen, widen_by}
 use Rattle.plai_share_laws.proofs.Ordered.{IsBelow}
-use Rattle.plai_share_laws.proofs.Meaning.{Instance, IsInstance, group, Describes, variable_at, put_term, new_term, last_terms, side_occurs, side_variable, arguments, extended, AreBelow, new_terms}
+use Rattle.plai_share_laws.proofs.Meaning.{
+  Instance,
+  IsInstance,
+  group,
+  Describes,
+  variable_at,
+  put_term,
+  new_term,
+  last_terms,
+  side_occurs,
+  side_variable,
+  arguments,
+  extended,
+  AreBelow,
+  new_terms,
+}
 use Rattle.plai_share_laws.specs.Calls.{unify_each, extend, call}
 use Rattle.plai_share_laws.proofs.Masks.{by_test, not_both, same_mask, has_of, meet_slot, from_has, has_from}
 use Rattle.plai_share_laws.proofs.Unify.{unify_describes}

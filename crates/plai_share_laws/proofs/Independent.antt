@@ -1,5 +1,30 @@
 -- How many unions there are of groups each of which has a slot of its own.
-use Rattle.std.proofs.Common.{◌≡◌, ◌⊎◌, ℕ, suc, ◌-◌, ◌^◌, false, nat_lt, bit_or, List, [], ◌∷◌, ◌++◌, map, length, refl, sym, ap, subst, ◌∙◌, inl, inr, arith, pow-suc}
+use Rattle.std.proofs.Common.{
+  ◌≡◌,
+  ◌⊎◌,
+  ℕ,
+  suc,
+  ◌-◌,
+  ◌^◌,
+  false,
+  nat_lt,
+  bit_or,
+  List,
+  [],
+  ◌∷◌,
+  ◌++◌,
+  map,
+  length,
+  refl,
+  sym,
+  ap,
+  subst,
+  ◌∙◌,
+  inl,
+  inr,
+  arith,
+  pow-suc,
+}
 use Rattle.std.proofs.lemmas.Nat.{pow_pos}
 use Rattle.std.proofs.lemmas.Bool.Decides.{nat_tests}
 use Rattle.std.proofs.lemmas.List.{length-map, length-append}
@@ -103,11 +128,13 @@ module _ (c : ℕ) where
             let q : Has a t = subst (λ z. Has z t) e (or_right a m t h) in
             by_either (has_or c (mask_of s) t q) (own t (inr l)) (λ o. p.0 (subst (λ z. IsIn z ss) (of_has s t o) l))),
         apart_append ys (map (bit_or a) ys) rest
-            (apart_map (bit_or a) ys rest (λ x y i j e. same_mask x y (inside s ss a ys x y refl refl lacks i j e) (inside s ss a ys y x refl refl lacks j i (sym e))))
+            (apart_map (bit_or a) ys rest (λ x y i j e. same_mask x y (inside s ss a ys x y refl refl lacks i j e)
+            (inside s ss a ys y x refl refl lacks j i (sym e))))
             (λ m i j. let (x, k, e) = in_map (bit_or a) ys m j in lacks m i (subst (λ z. Has z s) e (or_left a x s here))),
       )
     where
-      inside : (s : ℕ) (ss : List ℕ) (a : ℕ) (ys : List ℕ) (x y : ℕ) → a ≡ with_slot s → ys ≡ star (map with_slot ss) → ((m : ℕ) → IsIn m ys → Has m s → ⊥) → IsIn x ys → IsIn y ys
+      inside : (s : ℕ) (ss : List ℕ) (a : ℕ) (ys : List ℕ) (x y : ℕ) → a ≡ with_slot s → ys ≡ star (map with_slot ss) → ((m : ℕ) → IsIn m ys → Has m s → ⊥)
+          → IsIn x ys → IsIn y ys
           → bit_or a x ≡ bit_or a y → (k : ℕ) → Has x k → Has y k
       inside s ss a ys x y d f lacks i j e k h =
           by_either (has_or a y k (subst (λ z. Has z k) e (or_right a x k h)))

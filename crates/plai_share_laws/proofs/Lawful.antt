@@ -23,7 +23,23 @@ use Rattle.plai_share_laws.proofs.Ordered as plain
 use Rattle.plai_share_laws.proofs.Meaning.{AreBelow}
 use Rattle.plai_share_laws.proofs.Order.{leq_antisym, join_value, join_left, join_right, join_least}
 use Rattle.plai_share_laws.proofs.Rank.{rank_falls, describe_value}
-use Rattle.plai_share_laws.proofs.Compose.{IfValue, enter_leq, enter_grows, extend_grows, call_leq, exit_leq, back_leq, back_grows, refine_leq, refine_grows, enter_value, call_value, back_value, exit_value, refine_value}
+use Rattle.plai_share_laws.proofs.Compose.{
+  IfValue,
+  enter_leq,
+  enter_grows,
+  extend_grows,
+  call_leq,
+  exit_leq,
+  back_leq,
+  back_grows,
+  refine_leq,
+  refine_grows,
+  enter_value,
+  call_value,
+  back_value,
+  exit_value,
+  refine_value,
+}
 use Rattle.plai_share_laws.proofs.Lists.{in_map}
 use Rattle.plai_share_laws.proofs.TermMoves.{side_below}
 use Rattle.plai_share_laws.proofs.Canonical.{is_value, is_shares, in_order, leq_shares, shares_refl}
@@ -43,7 +59,8 @@ right n a b h = record { first_is = h.second_is; second_is = h.second_is; order 
 
 antisym : (n : ℕ) (a b : Abs) → Leq n a b → Leq n b a → a ≡ b
 antisym n a b h k =
-    h.first_is ∙ ap abs_of (leq_antisym n (shares_of a) (shares_of b) (in_order n (shares_of a) (shares_of b) h.order) (in_order n (shares_of b) (shares_of a) k.order))
+    h.first_is ∙ ap abs_of (leq_antisym n (shares_of a) (shares_of b) (in_order n (shares_of a) (shares_of b) h.order)
+    (in_order n (shares_of b) (shares_of a) k.order))
     ∙ sym h.second_is
 
 trans : (n : ℕ) (a b c : Abs) → Leq n a b → Leq n b c → Leq n a c
@@ -132,7 +149,8 @@ module _ (n v : ℕ) where
       (λ x y h.
       let (p, q, l) = in_order size x y h in
       subst (λ k. Leq k (abs_of (call size (sides_of n args) x)) (abs_of (call size (sides_of n args) y))) (as_many args)
-      (leq_of (length (sides_of n args)) _ _ (ordered (length (sides_of n args)) _ _ (call_value size (sides_of n args) x p) (call_value size (sides_of n args) y q)
+      (leq_of (length (sides_of n args)) _ _ (ordered (length (sides_of n args)) _ _ (call_value size (sides_of n args) x p)
+      (call_value size (sides_of n args) y q)
       (call_leq size (sides_of n args) x y l))))
 
   back_monotone : (args : List Term) (s t : StateView) (a b : Abs) → Below n v s t → Leq (length args) a b
@@ -173,7 +191,8 @@ module _ (n v : ℕ) where
       → SomeTooLarge (sharing.back s args a).sizes → SomeTooLarge (sharing.back t args b).sizes
   back_larger args s t a b h k = at_states (λ s t. SomeTooLarge (sharing.back s args a).sizes → SomeTooLarge (sharing.back t args b).sizes)
       (λ x y h. large_grows _ _
-      (back_grows size (sides_of n args) x y (in_order size x y h).2 (shares_of a) (shares_of b) (in_order (length args) (shares_of a) (shares_of b) k.order).2)) s t h
+      (back_grows size (sides_of n args) x y (in_order size x y h).2 (shares_of a) (shares_of b)
+      (in_order (length args) (shares_of a) (shares_of b) k.order).2)) s t h
 
   refine_larger : (args : List Term) (action : Action) (s t : StateView) → Below n v s t
       → SomeTooLarge (sharing.refine s args action).sizes → SomeTooLarge (sharing.refine t args action).sizes
@@ -188,12 +207,14 @@ module _ (n v : ℕ) where
     enter_monotone =
         let (p, q, l) = in_order (length head) (shares_of a) (shares_of b) here in
         let m = length head in
-        subst (λ m. Below m v (state_with (length head) v (enter v (sides_of (length head) head) (shares_of a))) (state_with (length head) v (enter v (sides_of (length head) head) (shares_of b)))) h.arity
+        subst (λ m. Below m v (state_with (length head) v (enter v (sides_of (length head) head) (shares_of a)))
+        (state_with (length head) v (enter v (sides_of (length head) head) (shares_of b)))) h.arity
         (below_of m v _ _ (leq_shares (m + v) _ _ (enter_value m (sides_of m head) (shares_of a) p v) (enter_value m (sides_of m head) (shares_of b) q v)
         (enter_leq m (sides_of m head) (shares_of a) (shares_of b) l v)))
 
     enter_larger : SomeTooLarge (sharing.enter a head v).sizes → SomeTooLarge (sharing.enter b head v).sizes
-    enter_larger = large_grows _ _ (enter_grows (length head) (sides_of (length head) head) (shares_of a) (shares_of b) (in_order (length head) (shares_of a) (shares_of b) here).2 v)
+    enter_larger = large_grows _ _ (enter_grows (length head) (sides_of (length head) head) (shares_of a) (shares_of b)
+        (in_order (length head) (shares_of a) (shares_of b) here).2 v)
 
 pub sharing_lawful : IsLawful sharing
 sharing_lawful =

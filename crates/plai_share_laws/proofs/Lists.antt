@@ -112,7 +112,8 @@ same_list [] (y ∷ ys) p q f g = absurd (g y (inl refl))
 same_list (x ∷ xs) [] p q f g = absurd (f x (inl refl))
 same_list (x ∷ xs) (y ∷ ys) p q f g =
     let e : x ≡ y = heads (f x (inl refl)) (g y (inl refl)) in
-    let rest : xs ≡ ys = same_list xs ys p.1 q.1 (λ z i. tail_in x y xs ys e p.0 z i (f z (inr i))) (λ z i. tail_in y x ys xs (sym e) q.0 z i (g z (inr i))) in cc
+    let rest : xs ≡ ys = same_list xs ys p.1 q.1 (λ z i. tail_in x y xs ys e p.0 z i (f z (inr i)))
+    (λ z i. tail_in y x ys xs (sym e) q.0 z i (g z (inr i))) in cc
   where
     heads : IsIn x (y ∷ ys) → IsIn y (x ∷ xs) → x ≡ y
     heads (inl e) j = sym e

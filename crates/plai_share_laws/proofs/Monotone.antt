@@ -4,9 +4,45 @@ use Rattle.plai_base.specs.Mask.{has_slot, mask_of}
 use Rattle.plai_share_laws.proofs.Members.{IsWithin}
 use Rattle.plai_base.specs.Sets.{has}
 use Rattle.plai_share_laws.specs.Groups.{IsPart, meets, without, rel, missing, star, near}
-use Rattle.plai_share_laws.specs.Shares.{Shares, Side, Slot, Other, slots_of, is_free, united, unify_groups, lost, unify, unify_formed, back_groups, answered, answered_formed, havocked, havocked_formed, grounded, same, any_meets, var_at, nonvar_at}
+use Rattle.plai_share_laws.specs.Shares.{
+  Shares,
+  Side,
+  Slot,
+  Other,
+  slots_of,
+  is_free,
+  united,
+  unify_groups,
+  lost,
+  unify,
+  unify_formed,
+  back_groups,
+  answered,
+  answered_formed,
+  havocked,
+  havocked_formed,
+  grounded,
+  same,
+  any_meets,
+  var_at,
+  nonvar_at,
+}
 use Rattle.plai_share_laws.proofs.Ordered.{Leq, AreCovered, UpTo}
-use Rattle.plai_share_laws.proofs.Masks.{by_test, not_both, has_or, or_left, or_right, meets_at, meet_slot, meets_or_left, meets_or_right, without_left, without_right, has_without, has_zero}
+use Rattle.plai_share_laws.proofs.Masks.{
+  by_test,
+  not_both,
+  has_or,
+  or_left,
+  or_right,
+  meets_at,
+  meet_slot,
+  meets_or_left,
+  meets_or_right,
+  without_left,
+  without_right,
+  has_without,
+  has_zero,
+}
 use Rattle.plai_share_laws.proofs.Lists.{by_either, in_filter, filter_in, contains_in, in_contains}
 use Rattle.plai_share_laws.proofs.Local.{any_at}
 use Rattle.plai_share_laws.proofs.Sets.{star_within, bin_within, near_part, filter_within, append_within, normal_within, member_star, in_near, near_in}
@@ -82,16 +118,19 @@ formed_is false r t new = refl
 
 formed_grow : (small big : Bool) (r t new u v old : List ℕ) → (big ≡ true → small ≡ true) → IsWithin r u → IsWithin t v → IsWithin new old
     → AreCovered (formed_by small r t new) (formed_by big u v old)
-formed_grow true true r t new u v old h f g k x (inl e) = (united true u v, inl refl, subst (λ (y : List ℕ). IsWithin y (united true u v)) e (united_within true true r t u v h f g))
+formed_grow true true r t new u v old h f g k x (inl e) =
+    (united true u v, inl refl, subst (λ (y : List ℕ). IsWithin y (united true u v)) e (united_within true true r t u v h f g))
 formed_grow true true r t new u v old h f g k x (inr (inl e)) = (old, inr (inl refl), subst (λ (y : List ℕ). IsWithin y old) e k)
 formed_grow true true r t new u v old h f g k x (inr (inr i)) = absurd i
-formed_grow true false r t new u v old h f g k x (inl e) = (united false u v, inr (inr (inl refl)), subst (λ (y : List ℕ). IsWithin y (united false u v)) e (united_within true false r t u v h f g))
+formed_grow true false r t new u v old h f g k x (inl e) =
+    (united false u v, inr (inr (inl refl)), subst (λ (y : List ℕ). IsWithin y (united false u v)) e (united_within true false r t u v h f g))
 formed_grow true false r t new u v old h f g k x (inr (inl e)) = (old, inr (inr (inr (inl refl))), subst (λ (y : List ℕ). IsWithin y old) e k)
 formed_grow true false r t new u v old h f g k x (inr (inr i)) = absurd i
 formed_grow false true r t new u v old h f g k x i = absurd (not_both (h refl) refl)
 formed_grow false false r t new u v old h f g k x (inl e) = (star u, inl refl, subst (λ (y : List ℕ). IsWithin y (star u)) e (star_within r u f))
 formed_grow false false r t new u v old h f g k x (inr (inl e)) = (star v, inr (inl refl), subst (λ (y : List ℕ). IsWithin y (star v)) e (star_within t v g))
-formed_grow false false r t new u v old h f g k x (inr (inr (inl e))) = (united false u v, inr (inr (inl refl)), subst (λ (y : List ℕ). IsWithin y (united false u v)) e (united_within false false r t u v h f g))
+formed_grow false false r t new u v old h f g k x (inr (inr (inl e))) =
+    (united false u v, inr (inr (inl refl)), subst (λ (y : List ℕ). IsWithin y (united false u v)) e (united_within false false r t u v h f g))
 formed_grow false false r t new u v old h f g k x (inr (inr (inr (inl e)))) = (old, inr (inr (inr (inl refl))), subst (λ (y : List ℕ). IsWithin y old) e k)
 formed_grow false false r t new u v old h f g k x (inr (inr (inr (inr i)))) = absurd i
 
@@ -133,8 +172,16 @@ module _ (a : ℕ) (answer larger : List ℕ) (fa fb : ℕ) (less : IsWithin ans
           (meets_at (without a fb) g l (has_without a fb l (without_left a fa l q) (λ r. without_right a fa l q (freer l r))) o) p
 
   pub answered_grows : AreCovered (answered_formed a answer v) (answered_formed a larger w)
-  answered_grows x (inl e) = (star (rel a w.groups), inl refl, subst (λ (y : List ℕ). IsWithin y (star (rel a w.groups))) e (rel_star_within a v.groups w.groups le.groups))
-  answered_grows x (inr (inl e)) = (back_groups a larger w.groups, inr (inl refl), subst (λ (y : List ℕ). IsWithin y (back_groups a larger w.groups)) e answered_leq.groups)
+  answered_grows x (inl e) = (
+    star (rel a w.groups),
+    inl refl,
+    subst (λ (y : List ℕ). IsWithin y (star (rel a w.groups))) e (rel_star_within a v.groups w.groups le.groups),
+  )
+  answered_grows x (inr (inl e)) = (
+    back_groups a larger w.groups,
+    inr (inl refl),
+    subst (λ (y : List ℕ). IsWithin y (back_groups a larger w.groups)) e answered_leq.groups,
+  )
   answered_grows x (inr (inr i)) = absurd i
 
 -- the actions
@@ -142,12 +189,17 @@ module _ (a : ℕ) (v w : Shares) (le : Leq v w) where
   pub havocked_leq : Leq (havocked a v) (havocked a w)
   havocked_leq = record {
     slots = le.slots;
-    groups = normal_within _ _ (append_within (missing a v.groups) _ (missing a w.groups) _ (filter_within _ v.groups w.groups le.groups) (rel_star_within a v.groups w.groups le.groups));
+    groups = normal_within _ _ (append_within (missing a v.groups) _ (missing a w.groups) _ (filter_within _ v.groups w.groups le.groups)
+        (rel_star_within a v.groups w.groups le.groups));
     free = without_part _ _ _ _ le.free (near_part a v.groups w.groups le.groups);
   }
 
   pub havocked_grows : AreCovered (havocked_formed a v) (havocked_formed a w)
-  havocked_grows x (inl e) = (star (rel a w.groups), inl refl, subst (λ (y : List ℕ). IsWithin y (star (rel a w.groups))) e (rel_star_within a v.groups w.groups le.groups))
+  havocked_grows x (inl e) = (
+    star (rel a w.groups),
+    inl refl,
+    subst (λ (y : List ℕ). IsWithin y (star (rel a w.groups))) e (rel_star_within a v.groups w.groups le.groups),
+  )
   havocked_grows x (inr (inl e)) = ((havocked a w).groups, inr (inl refl), subst (λ (y : List ℕ). IsWithin y (havocked a w).groups) e havocked_leq.groups)
   havocked_grows x (inr (inr i)) = absurd i
 

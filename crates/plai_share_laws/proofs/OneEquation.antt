@@ -69,7 +69,8 @@ renames_by n a b s f (inr (inl k)) e =
         λ y g. subst (IsRenaming (single v t)) (sym h.0) (single_renames v t k.absent),
       )
     ])
-renames_by n a b s f (inr (inr (inl k))) e = (λ y g. absurd (no_compound k.split.name k.split.xs y a k.split.left g), λ y g. absurd (no_compound k.split.name k.split.ys y b k.split.right g))
+renames_by n a b s f (inr (inr (inl k))) e =
+    (λ y g. absurd (no_compound k.split.name k.split.xs y a k.split.left g), λ y g. absurd (no_compound k.split.name k.split.ys y b k.split.right g))
 renames_by n a b s f (inr (inr (inr k))) e =
     let d : Some k.outcome ≡ Some (Unified s) = ap (going_on (solve n)) (sym (k.goes [] [])) ∙ e in
     let c : k.outcome ≡ Unified s = cc in absurd (k.fails s c)

@@ -1,5 +1,36 @@
 -- Projection and new slots.
-use Rattle.std.proofs.Common.{◌≡◌, ◌≢◌, ℕ, suc, ◌+◌, ◌-◌, ◌*◌, ◌/◌, ◌%◌, ◌^◌, ◌<◌, ◌≤◌, Bool, true, false, not, ◌&&◌, nat_eq, nat_lt, List, map, Some, refl, sym, ◌∙◌, ap, subst, inl, arith, add-zero}
+use Rattle.std.proofs.Common.{
+  ◌≡◌,
+  ◌≢◌,
+  ℕ,
+  suc,
+  ◌+◌,
+  ◌-◌,
+  ◌*◌,
+  ◌/◌,
+  ◌%◌,
+  ◌^◌,
+  ◌<◌,
+  ◌≤◌,
+  Bool,
+  true,
+  false,
+  not,
+  ◌&&◌,
+  nat_eq,
+  nat_lt,
+  List,
+  map,
+  Some,
+  refl,
+  sym,
+  ◌∙◌,
+  ap,
+  subst,
+  inl,
+  arith,
+  add-zero,
+}
 use Rattle.std.specs.Int.{bit_at}
 use Rattle.std.proofs.lemmas.Bool.{eq-eqb, eqb-true}
 use Rattle.std.proofs.lemmas.Bool.Decides.{nat_tests}
@@ -175,7 +206,8 @@ module _ (number y : ℕ) (v : Shares) (i : Instance) (above : number ≤ y) (wf
   pub new_describes : Describes v i → Describes (widen v) (new_term v.slots y i)
   new_describes d = record {
     groups = λ w k e. by_test (nat_eq k v.slots)
-        (λ t. let f = eqb-true w y (rw t at e) in append_right v.groups _ _ (inl (subst (λ z. mask_of v.slots ≡ group (new_term v.slots y i) (suc v.slots) z) (sym f) own)))
+        (λ t. let f = eqb-true w y (rw t at e) in
+        append_right v.groups _ _ (inl (subst (λ z. mask_of v.slots ≡ group (new_term v.slots y i) (suc v.slots) z) (sym f) own)))
         (λ t. let o : i.occurs w k ≡ true = rw t at e in
         append_left v.groups _ _ (subst (λ g. IsIn g v.groups) (other w (λ f. let l = wf.below w k o in omega arith)) (d.groups w k o)));
     free = λ k h. by_test (nat_eq k v.slots) (λ t. (y, rw t refl))
@@ -185,7 +217,8 @@ module _ (number y : ℕ) (v : Shares) (i : Instance) (above : number ≤ y) (wf
     where
       own : mask_of v.slots ≡ group (new_term v.slots y i) (suc v.slots) y
       own = same_mask _ _
-          (λ k h. let e = of_has v.slots k h in has_from ((new_term v.slots y i).occurs y) (suc v.slots) k (omega arith) (rw (eq-eqb k v.slots e) (eq-eqb y y refl)))
+          (λ k h. let e = of_has v.slots k h in has_from ((new_term v.slots y i).occurs y) (suc v.slots) k (omega arith)
+          (rw (eq-eqb k v.slots e) (eq-eqb y y refl)))
           (λ k h. let (l, e) = from_has ((new_term v.slots y i).occurs y) (suc v.slots) k h in
           by_test (nat_eq k v.slots) (λ t. subst (λ z. Has (mask_of v.slots) z) (sym (eqb-true k v.slots t)) (has_of v.slots))
           (λ t. let b = wf.below y k (rw t at e) in absurd (omega arith)))

@@ -15,9 +15,28 @@ use Rattle.plai_share_laws.proofs.Members.{IsIn, IsWithin}
 use Rattle.plai_share_laws.proofs.Ordered as plain
 use Rattle.plai_share_laws.proofs.Lists.{in_map, map_in, same_list}
 use Rattle.plai_share_laws.proofs.Canonical.{is_value}
-use Rattle.plai_share_laws.proofs.Texts.{Lacks, IsPiece, ArePieces, cut, joined_same, map_same, slot_in, in_slots, slots_tell, AreSlots, joined_slots, group_piece, group_same, groups_bytes, free_bytes, in_ordered, ordered_in}
+use Rattle.plai_share_laws.proofs.Texts.{
+  Lacks,
+  IsPiece,
+  ArePieces,
+  cut,
+  joined_same,
+  map_same,
+  slot_in,
+  in_slots,
+  slots_tell,
+  AreSlots,
+  joined_slots,
+  group_piece,
+  group_same,
+  groups_bytes,
+  free_bytes,
+  in_ordered,
+  ordered_in,
+}
 
-layout : (a b : List ℕ) → codes "sh={" ++ a ++ codes "} fr={" ++ b ++ codes "}" ≡ 115 ∷ 104 ∷ 61 ∷ 123 ∷ (a ++ 125 ∷ (32 ∷ 102 ∷ 114 ∷ 61 ∷ 123 ∷ (b ++ 125 ∷ [])))
+layout : (a b : List ℕ) → codes "sh={" ++ a ++ codes "} fr={" ++ b ++ codes "}"
+    ≡ 115 ∷ 104 ∷ 61 ∷ 123 ∷ (a ++ 125 ∷ (32 ∷ 102 ∷ 114 ∷ 61 ∷ 123 ∷ (b ++ 125 ∷ [])))
 layout a b = simp append_assoc
 
 -- a value of few arguments has slots below 64
@@ -63,22 +82,28 @@ module _ (n : ℕ) (few : n ≤ most_arguments) where
       let b = join_with_byte 44 (map group_text (ordered (map slots_of w.groups))) in
       let c = join_with_byte 44 (map slot_text (slots_of v.free)) in
       let d = join_with_byte 44 (map slot_text (slots_of w.free)) in
-      let t : 115 ∷ 104 ∷ 61 ∷ 123 ∷ (a ++ 125 ∷ (32 ∷ 102 ∷ 114 ∷ 61 ∷ 123 ∷ (c ++ 125 ∷ []))) ≡ 115 ∷ 104 ∷ 61 ∷ 123 ∷ (b ++ 125 ∷ (32 ∷ 102 ∷ 114 ∷ 61 ∷ 123 ∷ (d ++ 125 ∷ []))) = sym (layout a c) ∙ e ∙ layout b d in
+      let t : 115 ∷ 104 ∷ 61 ∷ 123 ∷ (a ++ 125 ∷ (32 ∷ 102 ∷ 114 ∷ 61 ∷ 123 ∷ (c ++ 125 ∷ [])))
+      ≡ 115 ∷ 104 ∷ 61 ∷ 123 ∷ (b ++ 125 ∷ (32 ∷ 102 ∷ 114 ∷ 61 ∷ 123 ∷ (d ++ 125 ∷ []))) = sym (layout a c) ∙ e ∙ layout b d in
       let (f, g) = after_first a b (32 ∷ 102 ∷ 114 ∷ 61 ∷ 123 ∷ (c ++ 125 ∷ [])) (32 ∷ 102 ∷ 114 ∷ 61 ∷ 123 ∷ (d ++ 125 ∷ []))
       (groups_bytes (ordered (map slots_of v.groups)) (are_slots v p)) (groups_bytes (ordered (map slots_of w.groups)) (are_slots w q)) t in
-      let h = after_second c d (free_bytes (slots_of v.free) (λ k i. (slot_in v.free k i).0)) (free_bytes (slots_of w.free) (λ k i. (slot_in w.free k i).0)) g in
+      let h = after_second c d (free_bytes (slots_of v.free) (λ k i. (slot_in v.free k i).0))
+      (free_bytes (slots_of w.free) (λ k i. (slot_in w.free k i).0)) g in
       let free : v.free ≡ w.free = slots_tell v.free w.free (low_free v p) (low_free w q)
       (joined_slots 44 (slots_of v.free) (slots_of w.free) (λ d. omega (arith, d.0)) (λ k i. (slot_in v.free k i).0) (λ k i. (slot_in w.free k i).0) h) in
       let lists : ordered (map slots_of v.groups) ≡ ordered (map slots_of w.groups) =
-      map_same group_text (ordered (map slots_of v.groups)) (ordered (map slots_of w.groups)) (λ x y i j s. group_same x y (are_slots v p x i) (are_slots w q y j) s)
-      (joined_same 44 (map group_text (ordered (map slots_of v.groups))) (map group_text (ordered (map slots_of w.groups))) (group_pieces v p) (group_pieces w q) f) in
+      map_same group_text (ordered (map slots_of v.groups)) (ordered (map slots_of w.groups))
+      (λ x y i j s. group_same x y (are_slots v p x i) (are_slots w q y j) s)
+      (joined_same 44 (map group_text (ordered (map slots_of v.groups))) (map group_text (ordered (map slots_of w.groups))) (group_pieces v p)
+      (group_pieces w q) f) in
       let groups : v.groups ≡ w.groups = same_list v.groups w.groups p.ascending q.ascending (within v w p q lists) (within w v q p (sym lists)) in
       same_shares (p.slots ∙ sym q.slots) groups free
     where
-      after_first : (a b r s : List ℕ) → Lacks 125 a → Lacks 125 b → 115 ∷ 104 ∷ 61 ∷ 123 ∷ (a ++ 125 ∷ r) ≡ 115 ∷ 104 ∷ 61 ∷ 123 ∷ (b ++ 125 ∷ s) → (a ≡ b) × (r ≡ s)
+      after_first : (a b r s : List ℕ) → Lacks 125 a → Lacks 125 b → 115 ∷ 104 ∷ 61 ∷ 123 ∷ (a ++ 125 ∷ r) ≡ 115 ∷ 104 ∷ 61 ∷ 123 ∷ (b ++ 125 ∷ s)
+          → (a ≡ b) × (r ≡ s)
       after_first a b r s h k t = let u : a ++ 125 ∷ r ≡ b ++ 125 ∷ s = cc in cut 125 a b r s h k u
 
-      after_second : (c d : List ℕ) → Lacks 125 c → Lacks 125 d → 32 ∷ 102 ∷ 114 ∷ 61 ∷ 123 ∷ (c ++ 125 ∷ []) ≡ 32 ∷ 102 ∷ 114 ∷ 61 ∷ 123 ∷ (d ++ 125 ∷ []) → c ≡ d
+      after_second : (c d : List ℕ) → Lacks 125 c → Lacks 125 d
+          → 32 ∷ 102 ∷ 114 ∷ 61 ∷ 123 ∷ (c ++ 125 ∷ []) ≡ 32 ∷ 102 ∷ 114 ∷ 61 ∷ 123 ∷ (d ++ 125 ∷ []) → c ≡ d
       after_second c d h k t = let u : c ++ 125 ∷ [] ≡ d ++ 125 ∷ [] = cc in (cut 125 c d [] [] h k u).0
 
       same_shares : v.slots ≡ w.slots → v.groups ≡ w.groups → v.free ≡ w.free → v ≡ w

@@ -1,5 +1,32 @@
 -- The rank gets smaller with each strict growth, and describe gives a value.
-use Rattle.std.proofs.Common.{◌≡◌, ◌≢◌, ℕ, zero, suc, ◌+◌, ◌-◌, ◌^◌, ◌<◌, ◌≤◌, true, false, nat_eq, nat_lt, List, [], ◌∷◌, length, refl, sym, ◌∙◌, ap, subst, inl, inr, arith}
+use Rattle.std.proofs.Common.{
+  ◌≡◌,
+  ◌≢◌,
+  ℕ,
+  zero,
+  suc,
+  ◌+◌,
+  ◌-◌,
+  ◌^◌,
+  ◌<◌,
+  ◌≤◌,
+  true,
+  false,
+  nat_eq,
+  nat_lt,
+  List,
+  [],
+  ◌∷◌,
+  length,
+  refl,
+  sym,
+  ◌∙◌,
+  ap,
+  subst,
+  inl,
+  inr,
+  arith,
+}
 use Rattle.std.specs.List.{range_with_len}
 use Rattle.std.proofs.lemmas.Nat.{pow_pos}
 use Rattle.std.proofs.lemmas.Bool.Decides.{nat_tests}
@@ -46,11 +73,14 @@ anything_value n = value_from n n (range_with_len 1 (2 ^ n - 1)) 0 refl (run_asc
     (λ k h. absurd (has_zero k h))
 
 property_value : (n : ℕ) (v : Shares) → IsValue n v → (p : Prop) → speaks_within n p → IsValue n (with_property p v)
-property_value n v h (property.Ground k) l = value_from n v.slots _ _ h.slots (ascending_filter _ v.groups h.ascending) (groups_filter n _ v.groups (groups_of n v h)) h.free
+property_value n v h (property.Ground k) l =
+    value_from n v.slots _ _ h.slots (ascending_filter _ v.groups h.ascending) (groups_filter n _ v.groups (groups_of n v h)) h.free
 property_value n v h (property.Var k) l = freed_value n v h (k - 1) (let (a, b) = l in omega arith)
 property_value n v h (property.Nonvar k) l = h
-property_value n v h (property.Int k) l = value_from n v.slots _ _ h.slots (ascending_filter _ v.groups h.ascending) (groups_filter n _ v.groups (groups_of n v h)) h.free
-property_value n v h (property.Indep k r) l = value_from n v.slots _ _ h.slots (ascending_filter _ v.groups h.ascending) (groups_filter n _ v.groups (groups_of n v h)) h.free
+property_value n v h (property.Int k) l =
+    value_from n v.slots _ _ h.slots (ascending_filter _ v.groups h.ascending) (groups_filter n _ v.groups (groups_of n v h)) h.free
+property_value n v h (property.Indep k r) l =
+    value_from n v.slots _ _ h.slots (ascending_filter _ v.groups h.ascending) (groups_filter n _ v.groups (groups_of n v h)) h.free
 
 all_value : (n : ℕ) (pre : List Prop) (v : Shares) → IsValue n v → ((p : Prop) → IsIn p pre → speaks_within n p) → IsValue n (with_all pre v)
 all_value n [] v h b = h

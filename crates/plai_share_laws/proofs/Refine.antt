@@ -1,12 +1,72 @@
 -- refine and enter describe the instance after the substitution.
-use Rattle.std.proofs.Common.{◌≡◌, ℕ, zero, suc, ◌+◌, ◌<◌, Bool, true, false, nat_lt, List, [], ◌∷◌, length, Option, Some, None, refl, sym, ◌∙◌, ap, subst, inl, inr, arith, ◌-◌}
+use Rattle.std.proofs.Common.{
+  ◌≡◌,
+  ℕ,
+  zero,
+  suc,
+  ◌+◌,
+  ◌<◌,
+  Bool,
+  true,
+  false,
+  nat_lt,
+  List,
+  [],
+  ◌∷◌,
+  length,
+  Option,
+  Some,
+  None,
+  refl,
+  sym,
+  ◌∙◌,
+  ap,
+  subst,
+  inl,
+  inr,
+  arith,
+  ◌-◌,
+}
 use Rattle.std.proofs.lemmas.Bool.Decides.{nat_tests}
 use Rattle.plai_base.specs.Mask.{has_slot, mask_of}
 use Rattle.plai_domain.specs.declared.action.Action.{Action}
 use Rattle.plai_domain.specs.declared.action.Action.TheVariants as action
-use Rattle.plai_share_laws.specs.Shares.{Shares, Side, Slot, Other, slots_of, unify, widen, widen_by, first_slots, havocked, grounded, same, var_at, nonvar_at, any_meets, freed}
+use Rattle.plai_share_laws.specs.Shares.{
+  Shares,
+  Side,
+  Slot,
+  Other,
+  slots_of,
+  unify,
+  widen,
+  widen_by,
+  first_slots,
+  havocked,
+  grounded,
+  same,
+  var_at,
+  nonvar_at,
+  any_meets,
+  freed,
+}
 use Rattle.plai_share_laws.proofs.Ordered.{IsBelow}
-use Rattle.plai_share_laws.proofs.Meaning.{Instance, IsInstance, Describes, Change, IsMoved, IsLocal, variable_at, arguments, extended, AreBelow, side_variable, IsEmpty, Allows, IsUnified, new_terms}
+use Rattle.plai_share_laws.proofs.Meaning.{
+  Instance,
+  IsInstance,
+  Describes,
+  Change,
+  IsMoved,
+  IsLocal,
+  variable_at,
+  arguments,
+  extended,
+  AreBelow,
+  side_variable,
+  IsEmpty,
+  Allows,
+  IsUnified,
+  new_terms,
+}
 use Rattle.plai_share_laws.specs.Calls.{unify_each, enter, extend, raise, side_at, refine, first_of_some}
 use Rattle.plai_share_laws.proofs.Masks.{by_test, has_of, of_has, has_zero}
 use Rattle.plai_share_laws.proofs.Unify.{unify_describes}
@@ -58,11 +118,13 @@ below_test : (k n : ℕ) → k < n → nat_lt k n ≡ true
 below_test k n l = grind (arith, nat_tests)
 
 -- a side's variable in the extended instance
-variable_up : (n number : ℕ) (args : List Side) (i : Instance) → IsInstance n number i → (t : Side) (y : ℕ) → variable_at i t ≡ Some y → variable_at (extended n args i) t ≡ Some y
+variable_up : (n number : ℕ) (args : List Side) (i : Instance) → IsInstance n number i → (t : Side) (y : ℕ) → variable_at i t ≡ Some y
+    → variable_at (extended n args i) t ≡ Some y
 variable_up n number args i wf (Slot k) y e = rw (below_test k n (wf.within y k (wf.itself k y e))) e
 variable_up n number args i wf (Other set) y e = e
 
-no_variable_up : (n : ℕ) (args : List Side) (i : Instance) (t : Side) → IsBelow n (slots_of t) → variable_at i t ≡ None → variable_at (extended n args i) t ≡ None
+no_variable_up : (n : ℕ) (args : List Side) (i : Instance) (t : Side) → IsBelow n (slots_of t) → variable_at i t ≡ None
+    → variable_at (extended n args i) t ≡ None
 no_variable_up n args i (Slot k) low e = rw (below_test k n (low k (has_of k))) e
 no_variable_up n args i (Other set) low e = e
 
@@ -109,7 +171,8 @@ module _ (n number later : ℕ) (args : List Side) (v : Shares) (i j : Instance)
     _,
     refl,
     first_again n later args j wf_after (unify (Slot (n + (a - 1))) (Slot (n + (b - 1))) big) sized
-        (unify_describes number big (extended n args i) (extended n args j) c (Slot (n + (a - 1))) (Slot (n + (b - 1))) big_wf known big_moved (unifier_up n args i (a - 1) (b - 1) c h)),
+        (unify_describes number big (extended n args i) (extended n args j) c (Slot (n + (a - 1))) (Slot (n + (b - 1))) big_wf known big_moved
+        (unifier_up n args i (a - 1) (b - 1) c h)),
   )
   refine_describes (action.Same a b) h = (
     _,

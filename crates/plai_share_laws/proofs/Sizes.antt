@@ -1,5 +1,36 @@
 -- The sizes of the sets that are formed where an answer comes back to q(f(A1,..,Am)), with m free independent variables.
-use Rattle.std.proofs.Common.{◌≡◌, ℕ, zero, suc, ◌+◌, ◌-◌, ◌^◌, Bool, true, false, not, bit_and, bit_or, List, [], ◌∷◌, ◌++◌, map, filter, length, Some, refl, sym, ap, subst, ◌∙◌, inl, inr, arith, codes}
+use Rattle.std.proofs.Common.{
+  ◌≡◌,
+  ℕ,
+  zero,
+  suc,
+  ◌+◌,
+  ◌-◌,
+  ◌^◌,
+  Bool,
+  true,
+  false,
+  not,
+  bit_and,
+  bit_or,
+  List,
+  [],
+  ◌∷◌,
+  ◌++◌,
+  map,
+  filter,
+  length,
+  Some,
+  refl,
+  sym,
+  ap,
+  subst,
+  ◌∙◌,
+  inl,
+  inr,
+  arith,
+  codes,
+}
 use Rattle.std.specs.List.{range_with_len}
 use Rattle.std.proofs.lemmas.List.{map-append}
 use Rattle.plai_base.specs.Mask.{mask_of, all_true}
@@ -82,7 +113,8 @@ module _ (c k : ℕ) (there : Has c k) (ss : List ℕ) where
     back_sizes : (n : ℕ) (args : List Side) (v answer : Shares) → raise n (all_true (length args)) ≡ c → map (raise n) answer.groups ≡ c ∷ []
         → (extend n args v).groups ≡ gs → sizes (back_formed n args v answer) ≡ sizes (extend_formed n args v) ++ (2 ^ length ss - 1) ∷ (2 ^ length ss - 1) ∷ []
     back_sizes n args v answer a b e =
-        map-append (λ set. length (normal set)) (extend_formed n args v) (answered_formed (raise n (all_true (length args))) (map (raise n) answer.groups) (extend n args v))
+        map-append (λ set. length (normal set)) (extend_formed n args v)
+        (answered_formed (raise n (all_true (length args))) (map (raise n) answer.groups) (extend n args v))
         ∙ ap (λ l. sizes (extend_formed n args v) ++ l)
         ((λ i. sizes (answered_formed (a i) (b i) (extend n args v))) ∙ answer_sizes (extend n args v) e)
 

@@ -42,7 +42,8 @@ behind_assoc a b (Some Clash) = refl
 behind_assoc a b (Some Occurs) = refl
 
 -- where the outcome is bindings
-behind_is : (bs : Bindings) (o : Option Outcome) (s : Bindings) → behind_some bs o ≡ Some (Unified s) → (cs : Bindings) × (o ≡ Some (Unified cs)) × (s ≡ composed bs cs)
+behind_is : (bs : Bindings) (o : Option Outcome) (s : Bindings) → behind_some bs o ≡ Some (Unified s)
+    → (cs : Bindings) × (o ≡ Some (Unified cs)) × (s ≡ composed bs cs)
 behind_is bs None s e = cc
 behind_is bs (Some (Unified cs)) s e = let d : composed bs cs ≡ s = cc in (cs, refl, sym d)
 behind_is bs (Some Clash) s e = cc
@@ -58,7 +59,8 @@ module _ (n : ℕ) (same : (es : Equations) (bs : Bindings) → solve n es bs �
   failing bs Clash h = refl
   failing bs Occurs h = refl
 
-  accumulates_by : (es : Equations) (bs : Bindings) (l r : Term) (f : Step) → Effect l r f → going_on (solve n) (f es bs) ≡ behind_some bs (going_on (solve n) (f es []))
+  accumulates_by : (es : Equations) (bs : Bindings) (l r : Term) (f : Step) → Effect l r f
+      → going_on (solve n) (f es bs) ≡ behind_some bs (going_on (solve n) (f es []))
   accumulates_by es bs l r f (inl k) = goes f es bs _ _ (k.goes es bs) (k.goes es []) (same es bs)
   accumulates_by es bs l r f (inr (inl k)) = goes f es bs _ _ (k.goes es bs) (k.goes es [])
       (same (put k.variable k.term es) (composed bs ((k.variable, k.term) ∷ []))
@@ -112,7 +114,8 @@ record AreSplitBy (f : Step) (ds es : Equations) (s : Bindings) : Type 0 where
   pub whole : s ≡ composed first second
 
 module _ (n : ℕ) (below : (ds es : Equations) (s : Bindings) → solve n (ds ++ es) [] ≡ Some (Unified s) → AreSplit ds es s) where
-  splits_by : (ds es : Equations) (s : Bindings) (l r : Term) (f : Step) → Effect l r f → going_on (solve n) (f (ds ++ es) []) ≡ Some (Unified s) → AreSplitBy f ds es s
+  splits_by : (ds es : Equations) (s : Bindings) (l r : Term) (f : Step) → Effect l r f → going_on (solve n) (f (ds ++ es) []) ≡ Some (Unified s)
+      → AreSplitBy f ds es s
   splits_by ds es s l r f (inl k) e =
       let m = below ds es s (ap (going_on (solve n)) (sym (k.goes (ds ++ es) [])) ∙ e) in
       record {
@@ -172,4 +175,12 @@ splits (suc n) [] es s e = record {
 }
 splits (suc n) (x ∷ ds) es s e =
     let r = splits_by n (λ ds es s. splits n ds es s) ds es s x.0 x.1 (moved (move_of x.0 x.1)) (effect x.0 x.1) e in
-    record { first = r.first; second = r.second; steps = suc r.steps; more = r.more; first_solved = r.first_solved; second_solved = r.second_solved; whole = r.whole }
+    record {
+      first = r.first;
+      second = r.second;
+      steps = suc r.steps;
+      more = r.more;
+      first_solved = r.first_solved;
+      second_solved = r.second_solved;
+      whole = r.whole;
+    }

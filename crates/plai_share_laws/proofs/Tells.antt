@@ -1,5 +1,32 @@
 -- Properties of described tuples.
-use Rattle.std.proofs.Common.{◌≡◌, ℕ, ◌-◌, ◌<◌, ◌≤◌, Bool, true, false, ◌||◌, nat_lt, All, List, [], ◌∷◌, map, length, Some, refl, sym, ap, subst, ◌∙◌, inl, inr, arith, rules}
+use Rattle.std.proofs.Common.{
+  ◌≡◌,
+  ℕ,
+  ◌-◌,
+  ◌<◌,
+  ◌≤◌,
+  Bool,
+  true,
+  false,
+  ◌||◌,
+  nat_lt,
+  All,
+  List,
+  [],
+  ◌∷◌,
+  map,
+  length,
+  Some,
+  refl,
+  sym,
+  ap,
+  subst,
+  ◌∙◌,
+  inl,
+  inr,
+  arith,
+  rules,
+}
 use Rattle.std.specs.List.{list_all, list_any, AllByRecursion}
 use Rattle.std.proofs.lemmas.Bool.{eq-eqb}
 use Rattle.std.proofs.lemmas.List.Elements.{recursion_from_All}
@@ -38,7 +65,8 @@ every P (y ∷ ys) h x (inr i) = every P ys h.1 x i
 abbrev IsGroundThen : Term → Type 0
 IsGroundThen t = ((w : ℕ) → occurs w t ≡ true → ⊥) → is_ground t ≡ true
 
-all_ground : (args : List Term) → AllByRecursion IsGroundThen args → ((w : ℕ) → list_any (λ b. b) (map (occurs w) args) ≡ true → ⊥) → list_all (λ b. b) (map is_ground args) ≡ true
+all_ground : (args : List Term) → AllByRecursion IsGroundThen args → ((w : ℕ) → list_any (λ b. b) (map (occurs w) args) ≡ true → ⊥)
+    → list_all (λ b. b) (map is_ground args) ≡ true
 all_ground [] h n = refl
 all_ground (a ∷ args) h n = and_both _ _ (h.0 (λ w o. n w (first (occurs w a) _ o))) (all_ground args h.1 (λ w o. n w (second (occurs w a) _ o)))
   where

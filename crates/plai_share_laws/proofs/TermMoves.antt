@@ -1,5 +1,31 @@
 -- Terms at slots are an instance, a substitution moves it, and a unifier is one for the domain.
-use Rattle.std.proofs.Common.{◌≡◌, ◌⊎◌, ℕ, ◌+◌, ◌<◌, ℤ, true, false, nat_lt, List, [], ◌∷◌, map, Option, Some, None, refl, sym, ap, subst, ◌∙◌, inl, inr, rules, arith}
+use Rattle.std.proofs.Common.{
+  ◌≡◌,
+  ◌⊎◌,
+  ℕ,
+  ◌+◌,
+  ◌<◌,
+  ℤ,
+  true,
+  false,
+  nat_lt,
+  List,
+  [],
+  ◌∷◌,
+  map,
+  Option,
+  Some,
+  None,
+  refl,
+  sym,
+  ap,
+  subst,
+  ◌∙◌,
+  inl,
+  inr,
+  rules,
+  arith,
+}
 use Rattle.std.specs.List.{list_any, AllByRecursion}
 use Rattle.std.proofs.lemmas.Bool.{eq-eqb, eqb-true}
 use Rattle.std.proofs.lemmas.Bool.Decides.{nat_tests}
@@ -102,7 +128,8 @@ module _ (base : ℕ) where
       (λ name args h k o. let (v, p, e) = all_at args h k (subst (λ z. Has z k) (slots-Compound name args) o) in
       (v, occurs-Compound v name args ∙ p, e))
 
-  all_has : (args : List Term) → AllByRecursion HasSlots args → (v : ℕ) → list_any (λ b. b) (map (occurs v) args) ≡ true → Has (unions (map (term_slots base) args)) (base + v)
+  all_has : (args : List Term) → AllByRecursion HasSlots args → (v : ℕ) → list_any (λ b. b) (map (occurs v) args) ≡ true
+      → Has (unions (map (term_slots base) args)) (base + v)
   all_has [] h v e = cc
   all_has (a ∷ args) h v e = by_either (or_cases (occurs v a) (list_any (λ b. b) (map (occurs v) args)) e)
       (λ o. or_left (term_slots base a) _ (base + v) (h.0 v o))
@@ -144,7 +171,8 @@ module _ (base : ℕ) where
     pub side_variable_is : (y : ℕ) → variable_at (placed n terms) (side_of base t) ≡ Some y → variable_of filled ≡ Some y
     side_variable_is y = split (variable_of t) refl
       where
-        split : (o : Option ℕ) → variable_of t ≡ o → variable_at (placed n terms) (side_by base (variable_of t) (term_slots base t)) ≡ Some y → variable_of filled ≡ Some y
+        split : (o : Option ℕ) → variable_of t ≡ o → variable_at (placed n terms) (side_by base (variable_of t) (term_slots base t)) ≡ Some y
+            → variable_of filled ≡ Some y
         split None e h = let g = rw e at h in cc
         split (Some v) e h =
             let (l, f) = variable_here n terms (base + v) y (rw e at h) in

@@ -140,7 +140,8 @@ pub joined_slots : (c : ℕ) (xs ys : List ℕ) → (IsDigit c → ⊥) → AreS
 joined_slots c xs ys n f g e =
     slots_same xs ys f g (joined_same c (map slot_text xs) (map slot_text ys) (slot_pieces c xs n f) (slot_pieces c ys n g) e)
 
-pub slots_bytes : (P : ℕ → Type 0) (c : ℕ) (xs : List ℕ) → P c → ((b : ℕ) → IsDigit b → P b) → AreSlots xs → (b : ℕ) → IsIn b (join_with_byte c (map slot_text xs)) → P b
+pub slots_bytes : (P : ℕ → Type 0) (c : ℕ) (xs : List ℕ) → P c → ((b : ℕ) → IsDigit b → P b) → AreSlots xs → (b : ℕ)
+    → IsIn b (join_with_byte c (map slot_text xs)) → P b
 slots_bytes P c xs h d f = joined_bytes P c (map slot_text xs) h
     (λ x i b j. let (k, l, e) = in_map slot_text xs x i in d b (slot_bytes k (f k l) b (subst (λ z. IsIn b z) (sym e) j)))
 

@@ -1,5 +1,30 @@
 -- The literal's arguments under an instance are the tuple of their terms.
-use Rattle.std.proofs.Common.{◌≡◌, ℕ, zero, suc, ◌+◌, ◌<◌, Bool, true, false, ◌&&◌, nat_lt, List, [], ◌∷◌, map, length, Some, refl, sym, subst, ◌∙◌, inl, inr, arith}
+use Rattle.std.proofs.Common.{
+  ◌≡◌,
+  ℕ,
+  zero,
+  suc,
+  ◌+◌,
+  ◌<◌,
+  Bool,
+  true,
+  false,
+  ◌&&◌,
+  nat_lt,
+  List,
+  [],
+  ◌∷◌,
+  map,
+  length,
+  Some,
+  refl,
+  sym,
+  subst,
+  ◌∙◌,
+  inl,
+  inr,
+  arith,
+}
 use Rattle.std.proofs.lemmas.Bool.Decides.{nat_tests}
 use Rattle.plai_terms.specs.Term.{occurs}
 use Rattle.plai_terms.specs.declared.term.Term.{Term}
@@ -45,8 +70,10 @@ module _ (base n number : ℕ) (terms : ℕ → Term) (wf : IsInstance n number 
       (touch_occurs base n terms t (low t (inl refl)) w (meets_touch n number (placed n terms) wf (slots_of (side_of base t)) w e)))
       (λ e. touch_meets n number (placed n terms) wf (slots_of (side_of base t)) w (occurs_touch base n terms t (low t (inl refl)) w (and_parts _ _ e).1))
   occurs_same (t ∷ ts) low w (suc k) = occurs_same ts (λ x m. low x (inr m)) w k ∙ equal _ _
-      (λ e. let (a, b) = and_parts _ _ e in let l = lower k (length (map fill ts)) a in and_both _ _ (lower_test (suc k) (suc (length (map fill ts))) (omega arith)) b)
-      (λ e. let (a, b) = and_parts _ _ e in let l = lower (suc k) (suc (length (map fill ts))) a in and_both _ _ (lower_test k (length (map fill ts)) (omega arith)) b)
+      (λ e. let (a, b) = and_parts _ _ e in let l = lower k (length (map fill ts)) a in
+      and_both _ _ (lower_test (suc k) (suc (length (map fill ts))) (omega arith)) b)
+      (λ e. let (a, b) = and_parts _ _ e in let l = lower (suc k) (suc (length (map fill ts))) a in
+      and_both _ _ (lower_test k (length (map fill ts)) (omega arith)) b)
 
   variable_to : (args : List Term) → AreWithin args → (k y : ℕ) → side_variable (map (side_of base) args) (placed n terms) k ≡ Some y
       → (k < length (map fill args)) × (variable_of (term_at (map fill args) k) ≡ Some y)

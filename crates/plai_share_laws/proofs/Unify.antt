@@ -4,7 +4,22 @@ use Rattle.plai_share_laws.proofs.Members.{IsIn}
 use Rattle.plai_share_laws.specs.Groups.{Has, meets, misses, without, rel, missing, star, bin, near}
 use Rattle.plai_share_laws.specs.Shares.{Shares, Side, Slot, Other, slots_of, is_free, united, unify_groups, lost, unify}
 use Rattle.plai_share_laws.proofs.Meaning.{Instance, IsInstance, group, Describes, Change, IsMoved, Touches, Renames, Unifies, IsOne, variable_at, IsUnifier}
-use Rattle.plai_share_laws.proofs.Masks.{by_test, not_both, same_mask, has_or, or_left, or_right, of_has, meets_at, meet_slot, misses_at, from_has, has_from, without_left, without_right}
+use Rattle.plai_share_laws.proofs.Masks.{
+  by_test,
+  not_both,
+  same_mask,
+  has_or,
+  or_left,
+  or_right,
+  of_has,
+  meets_at,
+  meet_slot,
+  misses_at,
+  from_has,
+  has_from,
+  without_left,
+  without_right,
+}
 use Rattle.plai_share_laws.proofs.Lists.{by_either, append_left, append_right, filter_in, normal_in}
 use Rattle.plai_share_laws.proofs.Sets.{part_or, bin_in, near_in}
 use Rattle.plai_share_laws.proofs.Gather.{gather, in_gather, gather_in, gathered}
@@ -110,7 +125,8 @@ module _ (n number : ℕ) (i : Instance) (wf : IsInstance n number i) (c : Chang
         (part_or g h _ (λ k d. after_has w k (from_picked a w k d)) (λ k d. after_has w k (from_picked b w k d)))
         (λ k d. let (y, f, r) = moved.from w k (has_after w k d) in by_either (sides w y t r)
         (λ o. or_left g h k (into_picked a w y k o r f)) (λ o. or_right g h k (into_picked b w y k o r f))) in
-        subst (λ o. IsIn o (bin (star (rel a s)) (star (rel b s)))) is (bin_in (star (rel a s)) (star (rel b s)) g h (picked_star a w v l p) (picked_star b w x m q))
+        subst (λ o. IsIn o (bin (star (rel a s)) (star (rel b s)))) is
+        (bin_in (star (rel a s)) (star (rel b s)) g h (picked_star a w v l p) (picked_star b w x m q))
 
     -- where only one variable of each side comes in
     by_ones : (w k : ℕ) → j.occurs w k ≡ true → Touches i a w ⊎ Touches i b w

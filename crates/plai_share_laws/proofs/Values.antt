@@ -1,12 +1,58 @@
 -- The operations give values: ascending lists of sets of slots.
-use Rattle.std.proofs.Common.{◌≡◌, ℕ, suc, ◌+◌, ◌/◌, ◌%◌, ◌^◌, ◌<◌, Bool, true, false, not, ◌||◌, nat_eq, bit_and, bit_or, List, [], ◌∷◌, ◌++◌, map, filter, refl, sym, ap, subst, inl, inr, arith}
+use Rattle.std.proofs.Common.{
+  ◌≡◌,
+  ℕ,
+  suc,
+  ◌+◌,
+  ◌/◌,
+  ◌%◌,
+  ◌^◌,
+  ◌<◌,
+  Bool,
+  true,
+  false,
+  not,
+  ◌||◌,
+  nat_eq,
+  bit_and,
+  bit_or,
+  List,
+  [],
+  ◌∷◌,
+  ◌++◌,
+  map,
+  filter,
+  refl,
+  sym,
+  ap,
+  subst,
+  inl,
+  inr,
+  arith,
+}
 use Rattle.std.proofs.Math.Nat.{mod-eq_of_lt}
 use Rattle.plai_base.specs.Mask.{mask_of, all_true}
 use Rattle.plai_base.proofs.Bits.{top_lt}
 use Rattle.plai_share_laws.proofs.Members.{IsIn, IsAscending}
 use Rattle.plai_base.specs.Sets.{has}
 use Rattle.plai_share_laws.specs.Groups.{Has, meets, without, normal, rel, missing, star, bin}
-use Rattle.plai_share_laws.specs.Shares.{Shares, Side, slots_of, is_free, united, unify, widen, parts, first_slots, last_slots, answered, havocked, grounded, same, freed}
+use Rattle.plai_share_laws.specs.Shares.{
+  Shares,
+  Side,
+  slots_of,
+  is_free,
+  united,
+  unify,
+  widen,
+  parts,
+  first_slots,
+  last_slots,
+  answered,
+  havocked,
+  grounded,
+  same,
+  freed,
+}
 use Rattle.plai_share_laws.proofs.Ordered.{IsBelow, IsValue}
 use Rattle.plai_share_laws.proofs.Masks.{by_test, not_both, same_mask, has_or, or_left, of_has, has_of, empty_mask, meet_slot, meets_at, without_left}
 use Rattle.plai_share_laws.proofs.Lists.{by_either, in_append, in_filter, in_normal, normal_ascending}
@@ -21,7 +67,8 @@ pub record IsGroup (n g : ℕ) : Type 0 where
 abbrev pub AreGroups : ℕ → List ℕ → Type 0
 AreGroups n gs = (g : ℕ) → IsIn g gs → IsGroup n g
 
-pub value_from : (n m : ℕ) (gs : List ℕ) (f : ℕ) → m ≡ n → IsAscending gs → AreGroups n gs → IsBelow n f → IsValue n (record { slots = m; groups = gs; free = f })
+pub value_from : (n m : ℕ) (gs : List ℕ) (f : ℕ) → m ≡ n → IsAscending gs → AreGroups n gs → IsBelow n f
+    → IsValue n (record { slots = m; groups = gs; free = f })
 value_from n m gs f e up all low = record {
   slots = e;
   ascending = up;
@@ -105,10 +152,12 @@ module _ (n : ℕ) (v : Shares) (p : IsValue n v) where
 
   pub unify_value : (x t : Side) → IsValue n (unify x t v)
   unify_value x t = value_normal n v.slots
-      (missing (bit_or (slots_of x) (slots_of t)) v.groups ++ united (is_free v.free x || is_free v.free t) (rel (slots_of x) v.groups) (rel (slots_of t) v.groups))
+      (missing (bit_or (slots_of x) (slots_of t)) v.groups
+      ++ united (is_free v.free x || is_free v.free t) (rel (slots_of x) v.groups) (rel (slots_of t) v.groups))
       _ p.slots
       (groups_append n (missing (bit_or (slots_of x) (slots_of t)) v.groups) _ (groups_filter n _ v.groups all)
-      (groups_united n (is_free v.free x || is_free v.free t) (rel (slots_of x) v.groups) (rel (slots_of t) v.groups) (groups_filter n _ v.groups all) (groups_filter n _ v.groups all)))
+      (groups_united n (is_free v.free x || is_free v.free t) (rel (slots_of x) v.groups) (rel (slots_of t) v.groups) (groups_filter n _ v.groups all)
+      (groups_filter n _ v.groups all)))
       (below_without n v.free _ p.free)
 
   pub answered_value : (a : ℕ) (answer : List ℕ) (fa : ℕ) → IsValue n (answered a answer fa v)
@@ -124,7 +173,8 @@ module _ (n : ℕ) (v : Shares) (p : IsValue n v) where
       (below_without n v.free _ p.free)
 
   pub grounded_value : (a : ℕ) → IsValue n (grounded a v)
-  grounded_value a = value_from n v.slots _ _ p.slots (ascending_filter _ v.groups p.ascending) (groups_filter n _ v.groups all) (below_without n v.free _ p.free)
+  grounded_value a = value_from n v.slots _ _ p.slots (ascending_filter _ v.groups p.ascending) (groups_filter n _ v.groups all)
+      (below_without n v.free _ p.free)
 
   pub same_value : (a b : ℕ) → IsValue n (same a b v)
   same_value a b = value_from n v.slots _ _ p.slots (ascending_filter _ v.groups p.ascending) (groups_filter n _ v.groups all) p.free

@@ -45,7 +45,8 @@ one_there ts i a b v o =
     ]
 
 -- those of chosen arguments
-if_there : (b : Bool) (t : Term) (us ts : List Term) (v : ℕ) → (occurs_in v us ≡ true → occurs_in v ts ≡ true) → occurs_in v (cond b (t ∷ us) us) ≡ true → occurs_in v (t ∷ ts) ≡ true
+if_there : (b : Bool) (t : Term) (us ts : List Term) (v : ℕ) → (occurs_in v us ≡ true → occurs_in v ts ≡ true) → occurs_in v (cond b (t ∷ us) us) ≡ true
+    → occurs_in v (t ∷ ts) ≡ true
 if_there true t us ts v h o =
     elim (or_cases (occurs v t) (occurs_in v us) o) [
       | inl p ↦ or_first (occurs v t) (occurs_in v ts) p
@@ -59,7 +60,8 @@ chosen_there slots slot (t ∷ ts) v o = if_there (has_slot slots slot) t (chose
 
 -- a unifier of two of the terms is local to the terms, from any number
 unifier_local : (f : ℕ → Term) (n : ℕ) (ts : List Term) (a b : Term) (s : Bindings) → ((v : ℕ) → occurs_in v (a ∷ []) ≡ true → occurs_in v ts ≡ true)
-    → ((v : ℕ) → occurs_in v (b ∷ []) ≡ true → occurs_in v ts ≡ true) → UnifiesTo (a ∷ []) (b ∷ []) (Unified s) → ((v : ℕ) → f v ≡ bound_to s v) → IsLocal f n ts
+    → ((v : ℕ) → occurs_in v (b ∷ []) ≡ true → occurs_in v ts ≡ true) → UnifiesTo (a ∷ []) (b ∷ []) (Unified s) → ((v : ℕ) → f v ≡ bound_to s v)
+    → IsLocal f n ts
 unifier_local f n ts a b s left right h same =
     let u : IsMostGeneral (a ∷ []) (b ∷ []) s = unifier (a ∷ []) (b ∷ []) s refl h in
     record {

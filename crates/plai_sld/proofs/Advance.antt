@@ -33,7 +33,8 @@ items_later i f (x ∷ xs) = let p = goal_later i f x x.target in let q = items_
 
 -- a body and its mark, under a substitution
 pub body_later : (i f : ℕ → Term) (xs : List Literal) (p : PredKey) (was hs : List Term) (lower : List Item)
-    → items_under f (goals_of i xs ++ Mark p was (map (under i) hs) ∷ lower) ≡ goals_of (then_also i f) xs ++ Mark p was (map (under (then_also i f)) hs) ∷ items_under f lower
+    → items_under f (goals_of i xs ++ Mark p was (map (under i) hs) ∷ lower)
+    ≡ goals_of (then_also i f) xs ++ Mark p was (map (under (then_also i f)) hs) ∷ items_under f lower
 body_later i f xs p was hs lower =
     map-append (item_under f) (goals_of i xs) (Mark p was (map (under i) hs) ∷ lower)
     ∙ ap (λ ys. ys ++ Mark p was (map (under f) (map (under i) hs)) ∷ items_under f lower) (items_later i f xs)
@@ -43,7 +44,8 @@ module _ (d : PlainDomain) where
   abbrev pub advanced : (ℕ → Term) → Frame d → Frame d
   advanced f x = record x { since = then_also x.since f }
 
-  pub instance_later : (c : Clause) (n m : ℕ) (i f : ℕ → Term) → ((v : ℕ) → v < n → IsBelow m (f v)) → IsFrom c.variables n i → IsFrom c.variables m (then_also i f)
+  pub instance_later : (c : Clause) (n m : ℕ) (i f : ℕ → Term) → ((v : ℕ) → v < n → IsBelow m (f v)) → IsFrom c.variables n i
+      → IsFrom c.variables m (then_also i f)
   instance_later c n m i f h below v lt w o =
       let (u, a, b) = source f w (i v) o in
       h u (below v lt u a) w b
@@ -78,7 +80,8 @@ module _ (d : PlainDomain) (g : ProgramView) (formed : IsWellFormed g) (rows : L
         now_below = terms_later d n m f brought now w.now_below;
         at_le = let a : at ≤ n = w.at_le in omega arith;
         before = w.before;
-        below = subst (IsFrom x.clause.variables m) (after_after x.instance x.since f) (instance_later d x.clause n m (then_also x.instance x.since) f brought w.below);
+        below = subst (IsFrom x.clause.variables m) (after_after x.instance x.since f)
+            (instance_later d x.clause n m (then_also x.instance x.since) f brought w.below);
         since = local_later x.since f at n was ts w.at_le now_below w.since step confined;
         from_le = w.from_le;
       }
@@ -90,7 +93,8 @@ module _ (d : PlainDomain) (g : ProgramView) (formed : IsWellFormed g) (rows : L
       let from_le : x.from ≤ at = waiting.from_le in
       let deeper : AreConfined x.was x.from = λ w o.
       elim (confined w o) [
-        | inl a ↦ confined_args d g formed rows x.row x.clause x.literal x.rest x.state x.instance x.was x.from active w (subst (λ us. occurs_in w us ≡ true) waiting.was_is a)
+        | inl a ↦ confined_args d g formed rows x.row x.clause x.literal x.rest x.state x.instance x.was x.from active w
+            (subst (λ us. occurs_in w us ≡ true) waiting.was_is a)
         | inr a ↦ inr (omega arith)
       ] in
       let rest = stack_later fs x.from x.row.name x.was (head_now d x) lower deeper stack in

@@ -50,7 +50,8 @@ module _ (g : ProgramView) (formed : IsWellFormed g) (p : PredKey) (c : Clause) 
     callee_arity q e = (subst (IsTargetOf x.name (length x.args)) e ((formed.clauses p c inside).body x part).target).2
 
 -- what holds of a numbered clause of a predicate
-module _ (g : ProgramView) (formed : IsWellFormed g) (p : PredKey) (clauses : List Clause) (are : clauses ≡ clauses_of g p) (choice : ℕ) (c : Clause) (is : numbered_clause clauses choice ≡ Some c) where
+module _ (g : ProgramView) (formed : IsWellFormed g) (p : PredKey) (clauses : List Clause) (are : clauses ≡ clauses_of g p) (choice : ℕ) (c : Clause)
+    (is : numbered_clause clauses choice ≡ Some c) where
   inside : IsIn c (clauses_of g p)
   inside = subst (λ cs. IsIn c cs) are (numbered_in clauses choice c is)
 

@@ -20,8 +20,10 @@ use Rattle.plai_sld.specs.declared.item.Item.TheVariants.{Call, Builtin, Mark}
 use Rattle.plai_sld.specs.Runs.{RunState, goals_of}
 use Rattle.plai_sld.proofs.Going.{IsGoing}
 
--- A clause's body under way: its literals from here on, its state, and the instance that the state describes. The variables of the instance are those of the arguments at the call, or numbered from the number of that moment on.
-pub record IsActive (d : PlainDomain) (g : ProgramView) (rows : List (Row (as_domain d))) (r : Row (as_domain d)) (c : Clause) (lits : List Literal) (st : StateView) (i : ℕ → Term) (was : List Term) (from : ℕ) : Type 0 where
+-- A clause's body under way: its literals from here on, its state, and the instance that the state describes. The variables of the instance are those of the
+-- arguments at the call, or numbered from the number of that moment on.
+pub record IsActive (d : PlainDomain) (g : ProgramView) (rows : List (Row (as_domain d))) (r : Row (as_domain d)) (c : Clause) (lits : List Literal)
+    (st : StateView) (i : ℕ → Term) (was : List Term) (from : ℕ) : Type 0 where
   pub row : IsIn r rows
   pub clause : IsIn c (clauses_of g r.name.pred)
   pub part : (x : Literal) → IsIn x lits → IsIn x c.body
@@ -50,7 +52,8 @@ head_now d x = map (under (then_also x.instance x.since)) x.clause.head
 abbrev pub items_now : (d : PlainDomain) → Frame d → List Item → List Item
 items_now d x below = goals_of (then_also x.instance x.since) x.rest ++ Mark x.row.name.pred x.was (head_now d x) ∷ below
 
--- How a lower frame stands to the frame above it, which has the name, the arguments as they were and as they are: `at` is the number at the frame's moment, n the number now.
+-- How a lower frame stands to the frame above it, which has the name, the arguments as they were and as they are: `at` is the number at the frame's moment,
+-- n the number now.
 pub record IsWaiting (d : PlainDomain) (x : Frame d) (n at : ℕ) (name : NameOf (as_domain d)) (was now : List Term) : Type 0 where
   pub target_is : x.literal.target ≡ target.Pred x.callee
   pub name_is : name_of (as_domain d) x.callee (d.call x.state x.literal.args).value ≡ name
@@ -64,7 +67,8 @@ pub record IsWaiting (d : PlainDomain) (x : Frame d) (n at : ℕ) (name : NameOf
   pub from_le : x.from ≤ at
 
 -- The stack of lower frames below one with that name and these arguments, and its items.
-abbrev pub IsStack : (d : PlainDomain) (g : ProgramView) (rows : List (Row (as_domain d))) (fs : List (Frame d)) (n at : ℕ) (name : NameOf (as_domain d)) (was now : List Term) (items : List Item) → Type 0
+abbrev pub IsStack : (d : PlainDomain) (g : ProgramView) (rows : List (Row (as_domain d))) (fs : List (Frame d)) (n at : ℕ) (name : NameOf (as_domain d))
+    (was now : List Term) (items : List Item) → Type 0
 IsStack d g rows [] n at name was now items = items ≡ []
 IsStack d g rows (x ∷ fs) n at name was now items =
     (below : List Item) × IsWaiting d x n at name was now
@@ -73,7 +77,8 @@ IsStack d g rows (x ∷ fs) n at name was now items =
     × IsStack d g rows fs n x.from x.row.name x.was (head_now d x) below
 
 -- a goal at the front, with its row
-pub record IsPending (d : PlainDomain) (g : ProgramView) (rows : List (Row (as_domain d))) (n : ℕ) (p : PredKey) (ts : List Term) (rest : List Item) : Type 0 where
+pub record IsPending (d : PlainDomain) (g : ProgramView) (rows : List (Row (as_domain d))) (n : ℕ) (p : PredKey) (ts : List Term)
+    (rest : List Item) : Type 0 where
   pub row : Row (as_domain d)
   pub call : Abs
   pub frames : List (Frame d)

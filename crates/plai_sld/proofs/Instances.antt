@@ -34,7 +34,8 @@ numbers_same i j m a (suc n) le h =
 
 module _ (d : PlainDomain) (g : ProgramView) (formed : IsWellFormed g) (p : PredKey) (c : Clause) (inside : IsIn c (clauses_of g p)) where
   -- a state describes each instance that agrees on the clause's variables
-  pub describes_same : (st : StateView) (i j : ℕ → Term) → ((v : ℕ) → v < c.variables → i v ≡ j v) → Speaks d c.head c.variables st i → Speaks d c.head c.variables st j
+  pub describes_same : (st : StateView) (i j : ℕ → Term) → ((v : ℕ) → v < c.variables → i v ≡ j v) → Speaks d c.head c.variables st i
+      → Speaks d c.head c.variables st j
   describes_same st i j h e =
       let heads = under_same_all i j c.head (λ v o. h v (head_below g formed p c inside v o)) in
       let all = numbers_same i j c.variables 0 c.variables (omega arith) h in
@@ -75,7 +76,8 @@ allowed_local d (x ∷ xs) n ts f within below (first, others, m, allows, le, la
     (λ y j. subst (λ k. acts_within k y) (sym (length-map ts (under first))) (within y (inr j)))
     (terms_later d n m first later ts below) rest))
 
-module _ (d : PlainDomain) (g : ProgramView) (formed : IsWellFormed g) (sound : ActsTruly d) (rows : List (Row (as_domain d))) (r : Row (as_domain d)) (c : Clause)
+module _ (d : PlainDomain) (g : ProgramView) (formed : IsWellFormed g) (sound : ActsTruly d) (rows : List (Row (as_domain d))) (r : Row (as_domain d))
+    (c : Clause)
     (inside : IsIn c (clauses_of g r.name.pred)) (b : Literal) (part : IsIn b c.body) (steps : List (Step Calling Acting)) where
   abbrev Refined : (ℕ → Term) → Type 0
   Refined j = (after : StateView) × Speaks d c.head c.variables after j × IsGoing (as_domain d) rows r c steps after
@@ -91,8 +93,10 @@ module _ (d : PlainDomain) (g : ProgramView) (formed : IsWellFormed g) (sound : 
     going,
   )
   refined (x ∷ xs) within st i n f e below (first, others, m, allows, le, later, rest, same) going =
-      let (next, is, e') = sound.refine c.head c.variables st i b.args (head_is g formed r.name.pred c inside) (args_are g formed r.name.pred c inside b part) n first x (within x (inl refl)) e below allows in
-      let rest' : AllowedInTurn m xs (map (under (then_also i first)) b.args) others = subst (λ ts. AllowedInTurn m xs ts others) (under_under_all i first b.args) rest in
+      let (next, is, e') = sound.refine c.head c.variables st i b.args (head_is g formed r.name.pred c inside) (args_are g formed r.name.pred c inside b part)
+      n first x (within x (inl refl)) e below allows in
+      let rest' : AllowedInTurn m xs (map (under (then_also i first)) b.args) others =
+      subst (λ ts. AllowedInTurn m xs ts others) (under_under_all i first b.args) rest in
       let (after, e'', going') =
       refined xs (λ y j. within y (inr j)) next (then_also i first) m others e' (instance_later d c n m i first later below) rest'
       (going_do (as_domain d) rows r c (record { args = b.args; action = x }) (actions_then b.args xs steps) st next is going) in (

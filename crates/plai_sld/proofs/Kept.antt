@@ -18,7 +18,8 @@ module _ (g : ProgramView) (formed : IsWellFormed g) where
   leads_to_state (Mark pred was now ∷ rest) n choice after (h, k) e = subst IsState (sym e) k
   leads_to_state (Call pred args ∷ rest) n choice after ((many, below), k) (c, is, s, u, e) =
       subst IsState (sym e)
-      (head_state pred args rest n c s (numbered_formed g formed pred (clauses_of g pred) refl choice c is) (numbered_arity g formed pred (clauses_of g pred) refl choice c is) many below k u)
+      (head_state pred args rest n c s (numbered_formed g formed pred (clauses_of g pred) refl choice c is)
+      (numbered_arity g formed pred (clauses_of g pred) refl choice c is) many below k u)
   leads_to_state (Builtin name args ∷ rest) n choice after (h, k) (s, m, e) = subst IsState (sym e) (builtin_state rest n s k)
 
   pub run_state : (first : RunState) (choices : List ℕ) (last : RunState) → IsState first → IsRun g first choices last → IsState last
@@ -29,6 +30,7 @@ module _ (g : ProgramView) (formed : IsWellFormed g) where
   start_is_state pred args many = ((many, limits_above args), tt)
 
 -- a step more
-pub one_more : (g : ProgramView) (first : RunState) (choices : List ℕ) (middle : RunState) (choice : ℕ) (last : RunState) → IsRun g first choices middle → IsStep g middle choice last → IsRun g first (choices ++ choice ∷ []) last
+pub one_more : (g : ProgramView) (first : RunState) (choices : List ℕ) (middle : RunState) (choice : ℕ) (last : RunState) → IsRun g first choices middle
+    → IsStep g middle choice last → IsRun g first (choices ++ choice ∷ []) last
 one_more g first [] middle choice last e step = (last, subst (λ st. IsStep g st choice last) (sym e) step, refl)
 one_more g first (c ∷ choices) middle choice last (next, e, run) step = (next, e, one_more g next choices middle choice last run step)

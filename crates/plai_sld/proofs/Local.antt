@@ -28,7 +28,8 @@ pub raised_below : (n m : ℕ) (ts : List Term) → AreBelow m ts → (w : ℕ) 
 raised_below n m ts h w o = let (v, i, e) = raised_at n ts w o in let k : v < m = h v i in omega arith
 
 -- below the number, a unifier with a renamed head is local to the goal's arguments
-pub head_local : (n : ℕ) (hs ts : List Term) (s : Bindings) → length hs ≡ length ts → AreBelow n ts → UnifiesTo (map (under (raised n)) hs) ts (Unified s) → IsLocal (bound_to s) n ts
+pub head_local : (n : ℕ) (hs ts : List Term) (s : Bindings) → length hs ≡ length ts → AreBelow n ts → UnifiesTo (map (under (raised n)) hs) ts (Unified s)
+    → IsLocal (bound_to s) n ts
 head_local n hs ts s lengths below h =
     let u : IsMostGeneral (map (under (raised n)) hs) ts s = unifier (map (under (raised n)) hs) ts s (length-map hs (under (raised n)) ∙ lengths) h in
     record {
@@ -86,7 +87,8 @@ module _ (f g : ℕ → Term) (n m : ℕ) (ts : List Term) (below : AreBelow n t
         ];
   }
 
--- What was substituted since a moment stays local to the arguments of that moment, behind a substitution that is local to terms whose variables are these arguments' or later ones.
+-- What was substituted since a moment stays local to the arguments of that moment, behind a substitution that is local to terms whose variables are these
+-- arguments' or later ones.
 module _ (f g : ℕ → Term) (at n : ℕ) (was ts : List Term) (le : at ≤ n) (now_below : AreBelow n (map (under f) was))
     (since : IsLocal f at was) (step : IsLocal g n ts) (confined : (w : ℕ) → occurs_in w ts ≡ true → (occurs_in w was ≡ true) ⊎ (at ≤ w)) where
   pub local_later : IsLocal (then_also f g) at was

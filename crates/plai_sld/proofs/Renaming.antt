@@ -26,7 +26,8 @@ bound_from f a (suc k) v le lt =
 
 -- terms whose variables are below the limit are renamed
 pub raising_is : (n limit : ℕ) (ts : List Term) → AreBelow limit ts → map (under (bound_to (raising n limit))) ts ≡ map (under (raised n)) ts
-raising_is n limit ts below = under_same_all (bound_to (raising n limit)) (raised n) ts (λ v o. let l : v < limit = below v o in bound_from (raised n) 0 limit v (omega arith) (omega arith))
+raising_is n limit ts below = under_same_all (bound_to (raising n limit)) (raised n) ts
+    (λ v o. let l : v < limit = below v o in bound_from (raised n) 0 limit v (omega arith) (omega arith))
 
 numbers_push : (a k : ℕ) → numbers a (suc k) ≡ numbers a k ++ (a + k) ∷ []
 numbers_push a zero = ap (λ v. v ∷ []) (omega arith)
@@ -41,7 +42,8 @@ pub raising_push : (n k w : ℕ) (pairs after : Bindings) → w ≡ k + n → pa
 raising_push n k w pairs after is before e =
     let more : k + 1 ≡ suc k = omega arith in
     let more_numbers : numbers 0 (suc k) ≡ numbers 0 k ++ k ∷ [] = numbers_push 0 k ∙ ap (λ v. numbers 0 k ++ v ∷ []) (omega arith) in
-    let all : raising n (suc k) ≡ raising n k ++ (k, raised n k) ∷ [] = ap (map {B = ℕ × Term} (λ v. (v, raised n v))) more_numbers ∙ pairs_push (raised n) (numbers 0 k) k in
+    let all : raising n (suc k) ≡ raising n k ++ (k, raised n k) ∷ [] =
+    ap (map {B = ℕ × Term} (λ v. (v, raised n v))) more_numbers ∙ pairs_push (raised n) (numbers 0 k) k in
     e ∙ ap (λ ps. ps ++ (k, Var w) ∷ []) before ∙ ap (λ v. raising n k ++ (k, Var v) ∷ []) is ∙ sym all ∙ ap (raising n) (sym more)
 
 keys : (f : ℕ → Term) (vs : List ℕ) → map (λ (p : ℕ × Term). p.0) (map (λ v. (v, f v)) vs) ≡ vs
@@ -58,4 +60,5 @@ distinct_numbers a zero = tt
 distinct_numbers a (suc k) = (apart_from a (suc a) k (omega arith), distinct_numbers (suc a) k)
 
 pub raising_distinct : (n limit : ℕ) (pairs : Bindings) → pairs ≡ raising n limit → IsDistinct nat_eq (map (λ p. p.0) pairs)
-raising_distinct n limit pairs e = subst (λ vs. IsDistinct nat_eq vs) (sym (ap (map (λ (p : ℕ × Term). p.0)) e ∙ keys (raised n) (numbers 0 limit))) (distinct_numbers 0 limit)
+raising_distinct n limit pairs e = subst (λ vs. IsDistinct nat_eq vs) (sym (ap (map (λ (p : ℕ × Term). p.0)) e ∙ keys (raised n) (numbers 0 limit)))
+    (distinct_numbers 0 limit)

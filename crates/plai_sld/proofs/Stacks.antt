@@ -54,15 +54,19 @@ limits_on n (x ∷ xs) ws (h, i) k = (subst (λ ys. AreItems n ys) (sym (shown-l
 pub front_first : (stack rest : List Waiting) (w : Waiting) → stack ≡ rest ++ w ∷ [] → reverse stack ≡ w ∷ reverse rest
 front_first stack rest w is = ap reverse is ∙ reverse-append rest (w ∷ [])
 
-pub front_is : (stack rest : List Waiting) (w : Waiting) → stack ≡ rest ++ w ∷ [] → items_of stack ≡ w.item ∷ items_under (bound_to w.below.bindings) (items_of rest)
+pub front_is : (stack rest : List Waiting) (w : Waiting) → stack ≡ rest ++ w ∷ []
+    → items_of stack ≡ w.item ∷ items_under (bound_to w.below.bindings) (items_of rest)
 front_is stack rest w is = ap shown (front_first stack rest w is)
 
 -- the stack after a step
-pub top_replaced : (stack after : List Waiting) (count : ℕ) (top : List Waiting) → after ≡ take count stack ++ reverse top → reverse after ≡ with_top stack count top
-top_replaced stack after count top is = ap reverse is ∙ reverse-append (take count stack) (reverse top) ∙ ap (λ ws. ws ++ reverse (take count stack)) (reverse-reverse top)
+pub top_replaced : (stack after : List Waiting) (count : ℕ) (top : List Waiting) → after ≡ take count stack ++ reverse top
+    → reverse after ≡ with_top stack count top
+top_replaced stack after count top is = ap reverse is ∙ reverse-append (take count stack) (reverse top)
+    ∙ ap (λ ws. ws ++ reverse (take count stack)) (reverse-reverse top)
 
 -- a step of the loop that puts items on a stack
-pub one_put : (stack after items left : List Waiting) (w : Waiting) → items ≡ left ++ w ∷ [] → after ≡ stack ++ w ∷ [] → after ++ reverse left ≡ stack ++ reverse items
+pub one_put : (stack after items left : List Waiting) (w : Waiting) → items ≡ left ++ w ∷ [] → after ≡ stack ++ w ∷ []
+    → after ++ reverse left ≡ stack ++ reverse items
 one_put stack after items left w is e =
     ap (λ ws. ws ++ reverse left) e ∙ append_assoc stack (w ∷ []) (reverse left) ∙ ap (λ ws. stack ++ ws) (sym (front_first items left w is))
 
@@ -71,19 +75,23 @@ pub brought_none : (s : Bindings) (stack top : List Waiting) → stack ≡ [] �
 brought_none s stack top none e =
     subst (λ ws. IsBrought s ws 0 top) (sym none) (subst (λ ws. IsBrought s [] 0 ws) (sym e) (record { bound = omega arith; items = refl; limits = tt }))
 
-pub brought_some : (s : Bindings) (stack rest : List Waiting) (w x : Waiting) (count : ℕ) (top : List Waiting) → AreLimited (reverse stack) → stack ≡ rest ++ w ∷ [] → x.item ≡ item_under (bound_to s) w.item
-    → x.below.limit ≡ w.below.limit → AreBoth w.below.bindings s w.below.limit x.below.bindings → count ≡ length rest → top ≡ x ∷ [] → IsBrought s stack count top
+pub brought_some : (s : Bindings) (stack rest : List Waiting) (w x : Waiting) (count : ℕ) (top : List Waiting) → AreLimited (reverse stack)
+    → stack ≡ rest ++ w ∷ [] → x.item ≡ item_under (bound_to s) w.item
+    → x.below.limit ≡ w.below.limit → AreBoth w.below.bindings s w.below.limit x.below.bindings → count ≡ length rest → top ≡ x ∷ []
+    → IsBrought s stack count top
 brought_some s stack rest w x count top h is item limit both many e =
     let limits : AreLimited (w ∷ reverse rest) = subst (λ ws. AreLimited ws) (front_first stack rest w is) h in
     let longer : length stack ≡ length rest + 1 = ap length is ∙ length_push rest w in
     let cut : take count stack ≡ rest = ap (take count) is ∙ take_at rest (w ∷ []) count (sym many) in
     let whole : with_top stack count top ≡ x ∷ reverse rest = ap (λ ws. ws ++ reverse (take count stack)) e ∙ ap (λ ws. x ∷ reverse ws) cut in
-    let under_both : items_under (bound_to x.below.bindings) (items_of rest) ≡ items_under (bound_to s) (items_under (bound_to w.below.bindings) (items_of rest)) =
+    let under_both : items_under (bound_to x.below.bindings) (items_of rest)
+    ≡ items_under (bound_to s) (items_under (bound_to w.below.bindings) (items_of rest)) =
     items_both (bound_to w.below.bindings) (bound_to s) (bound_to x.below.bindings) w.below.limit both (items_of rest) limits.0 in
     record {
       bound = omega arith;
       items =
-          ap shown whole ∙ ap (λ y. y ∷ items_under (bound_to x.below.bindings) (items_of rest)) item ∙ ap (λ ys. item_under (bound_to s) w.item ∷ ys) under_both
+          ap shown whole ∙ ap (λ y. y ∷ items_under (bound_to x.below.bindings) (items_of rest)) item
+          ∙ ap (λ ys. item_under (bound_to s) w.item ∷ ys) under_both
           ∙ ap (items_under (bound_to s)) (sym (front_is stack rest w is));
       limits = subst (λ ws. AreLimited ws) (sym whole) (subst (λ m. AreItems m (items_of rest)) (sym limit) limits.0, limits.1);
     }

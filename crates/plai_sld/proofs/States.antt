@@ -48,11 +48,13 @@ module _ (f : ℕ → Term) (n m : ℕ) (le : n ≤ m) (brought : (v : ℕ) → 
 
 -- a renamed body
 module _ (c : Clause) (n : ℕ) where
-  goal_renamed : (l : Literal) (t : Target) → AreBelow c.variables l.args → IsTargetOf l.name (length l.args) t → IsItem (n + c.variables) (goal_at (raised n) l t)
+  goal_renamed : (l : Literal) (t : Target) → AreBelow c.variables l.args → IsTargetOf l.name (length l.args) t
+      → IsItem (n + c.variables) (goal_at (raised n) l t)
   goal_renamed l (target.Pred q) below h = (length-map l.args (under (raised n)) ∙ sym h.2, raised_below n c.variables l.args below)
   goal_renamed l target.Builtin below h = raised_below n c.variables l.args below
 
-  goals_renamed : (ls : List Literal) → ((l : Literal) → IsIn l ls → IsLiteral (length c.head) c.variables l) → AreItems (n + c.variables) (goals_of (raised n) ls)
+  goals_renamed : (ls : List Literal) → ((l : Literal) → IsIn l ls → IsLiteral (length c.head) c.variables l)
+      → AreItems (n + c.variables) (goals_of (raised n) ls)
   goals_renamed [] h = tt
   goals_renamed (l ∷ ls) h =
       let k : IsLiteral (length c.head) c.variables l = h l (inl refl) in
@@ -70,11 +72,13 @@ items_later n m le (Mark pred was now ∷ xs) ((many, many', below, below'), k) 
     ((many, many', λ v o. let l : v < n = below v o in omega arith, λ v o. let l : v < n = below' v o in omega arith), items_later n m le xs k)
 
 -- behind a head
-pub head_state : (pred : PredKey) (args : List Term) (rest : List Item) (n : ℕ) (c : Clause) (s : Bindings) → IsWellFormedClause c → length c.head ≡ pred.arity → length args ≡ pred.arity
+pub head_state : (pred : PredKey) (args : List Term) (rest : List Item) (n : ℕ) (c : Clause) (s : Bindings) → IsWellFormedClause c
+    → length c.head ≡ pred.arity → length args ≡ pred.arity
     → AreBelow n args → AreItems n rest → UnifiesTo (map (under (raised n)) c.head) args (Unified s) → IsState (behind_head pred args rest n c s)
 head_state pred args rest n c s good arity many below others h =
     let m : ℕ = n + c.variables in
-    let u : IsMostGeneral (map (under (raised n)) c.head) args s = unifier (map (under (raised n)) c.head) args s (length-map c.head (under (raised n)) ∙ arity ∙ sym many) h in
+    let u : IsMostGeneral (map (under (raised n)) c.head) args s =
+    unifier (map (under (raised n)) c.head) args s (length-map c.head (under (raised n)) ∙ arity ∙ sym many) h in
     let brought : (v : ℕ) → v < m → IsBelow m (bound_to s v) = λ v lt w o.
     elim (u.brings v w o) [
       | inl e ↦ omega arith
@@ -84,7 +88,8 @@ head_state pred args rest n c s good arity many below others h =
     let le : n ≤ m = omega arith in
     let args_later : AreBelow m args = λ v o. let l : v < n = below v o in omega arith in
     items_brought (bound_to s) m m (omega arith) brought (goals_of (raised n) c.body ++ Mark pred args args ∷ rest)
-    (both_items m (goals_of (raised n) c.body) (Mark pred args args ∷ rest) (goals_renamed c n c.body good.body) ((many, many, args_later, args_later), items_later n m le rest others))
+    (both_items m (goals_of (raised n) c.body) (Mark pred args args ∷ rest) (goals_renamed c n c.body good.body)
+    ((many, many, args_later, args_later), items_later n m le rest others))
 
 pub builtin_state : (rest : List Item) (n : ℕ) (s : Bindings) → AreItems n rest → IsState (behind_builtin rest n s)
 builtin_state rest n s h = items_brought (bound_to s) n (past n s) (past_le n s) (past_brought n s) rest h

@@ -54,21 +54,32 @@ then_none : (i : ℕ → Term) → then_also i Var ≡ i
 then_none i = λ j v. under_Var (i v) j
 
 -- what a body's first literal does, where its target is known
-going_target : (d : PlainDomain) (rows : List (Row (as_domain d))) (r : Row (as_domain d)) (c : Clause) (l : Literal) (t : Target) (rest : List Literal) (st : StateView) → l.target ≡ t
+going_target : (d : PlainDomain) (rows : List (Row (as_domain d))) (r : Row (as_domain d)) (c : Clause) (l : Literal) (t : Target) (rest : List Literal)
+    (st : StateView) → l.target ≡ t
     → IsGoing (as_domain d) rows r c (steps_of (l ∷ rest)) st → IsGoing (as_domain d) rows r c (literal_then l t (steps_of rest)) st
 going_target d rows r c l t rest st is going = subst (λ t. IsGoing (as_domain d) rows r c (literal_then l t (steps_of rest)) st) is going
 
-module _ (d : PlainDomain) (g : ProgramView) (laws : IsLawful (as_domain d) (as_program d g)) (formed : IsWellFormed g) (sound : IsSound d) (meant : AreMeant) (rows : List (Row (as_domain d))) (closed : IsClosed (as_domain d) (as_program d g) rows) where
+module _ (d : PlainDomain) (g : ProgramView) (laws : IsLawful (as_domain d) (as_program d g)) (formed : IsWellFormed g) (sound : IsSound d) (meant : AreMeant)
+    (rows : List (Row (as_domain d))) (closed : IsClosed (as_domain d) (as_program d g) rows) where
   -- at a mark, the row describes the answer
   pub top_answer : (r : Row (as_domain d)) (c : Clause) (st : StateView) (i : ℕ → Term) (was : List Term) (from : ℕ) → IsActive d g rows r c [] st i was from
       → IsAnswerTold d rows r.name.pred was (map (under i) c.head)
   top_answer r c st i was from active =
-      let (a, is, le) = going_end (as_domain d) rows r c st active.going in
-      (r, active.row, refl, active.called, a, is, sound.tells_truly.larger r.name.pred.arity (d.exit st c.head) a (map (under i) c.head) le (sound.acts_truly.exit c.head c.variables st i (head_is g formed r.name.pred c active.clause) active.state))
+      let (a, is, le) = going_end (as_domain d) rows r c st active.going in (
+        r,
+        active.row,
+        refl,
+        active.called,
+        a,
+        is,
+        sound.tells_truly.larger r.name.pred.arity (d.exit st c.head) a (map (under i) c.head) le
+            (sound.acts_truly.exit c.head c.variables st i (head_is g formed r.name.pred c active.clause) active.state),
+      )
 
   -- the mark is taken away: the frame below goes on behind its literal
   pub mark_step : (r : Row (as_domain d)) (c : Clause) (st : StateView) (i : ℕ → Term) (was : List Term) (n from : ℕ) (fs : List (Frame d)) (lower : List Item)
-      → IsActive d g rows r c [] st i was from → IsStack d g rows fs n from r.name was (map (under i) c.head) lower → IsGood d g rows (record { items = lower; next = n })
+      → IsActive d g rows r c [] st i was from → IsStack d g rows fs n from r.name was (map (under i) c.head) lower
+      → IsGood d g rows (record { items = lower; next = n })
   mark_step r c st i was n from [] lower active stack = inr (inr stack)
   mark_step r c st i was n from (x ∷ fs) lower active (below, waiting, low, items_are, stack) =
       let (a, is, le) = going_end (as_domain d) rows r c st active.going in
@@ -79,11 +90,14 @@ module _ (d : PlainDomain) (g : ProgramView) (laws : IsLawful (as_domain d) (as_
       let since : IsLocal x.since from args = subst (IsLocal x.since from) waiting.was_is waiting.since in
       let now_is : map (under i) c.head ≡ map (under x.since) args = waiting.now_is ∙ ap (map (under x.since)) waiting.was_is in
       let told : d.describes a (map (under x.since) args) =
-      subst (d.describes a) now_is (sound.tells_truly.larger r.name.pred.arity (d.exit st c.head) a (map (under i) c.head) le (sound.acts_truly.exit c.head c.variables st i (head_is g formed r.name.pred c active.clause) active.state)) in
-      let (after, eb, state) = sound.acts_truly.back x.clause.head x.clause.variables x.state x.instance x.literal.args (head_is g formed x.row.name.pred x.clause low.clause)
+      subst (d.describes a) now_is (sound.tells_truly.larger r.name.pred.arity (d.exit st c.head) a (map (under i) c.head) le
+      (sound.acts_truly.exit c.head c.variables st i (head_is g formed r.name.pred c active.clause) active.state)) in
+      let (after, eb, state) = sound.acts_truly.back x.clause.head x.clause.variables x.state x.instance x.literal.args
+      (head_is g formed x.row.name.pred x.clause low.clause)
       (args_are g formed x.row.name.pred x.clause low.clause x.literal part) from x.since a low.state waiting.before since told in
       let looked : source_of (as_domain d) rows x.callee (d.call x.state x.literal.args).value ≡ Some a =
-      lookup_name (as_domain d) (as_program d g) laws rows closed.distinct (name_of (as_domain d) x.callee (d.call x.state x.literal.args).value) r active.row (sym waiting.name_is) ∙ is in
+      lookup_name (as_domain d) (as_program d g) laws rows closed.distinct (name_of (as_domain d) x.callee (d.call x.state x.literal.args).value) r active.row
+      (sym waiting.name_is) ∙ is in
       inr (inl (record {
         row = x.row;
         clause = x.clause;
@@ -101,7 +115,8 @@ module _ (d : PlainDomain) (g : ProgramView) (laws : IsLawful (as_domain d) (as_
           called = low.called;
           state = state;
           going = going_on (as_domain d) rows x.row x.clause callee (steps_of x.rest) x.state after a looked eb going;
-          confined = confined_later d g formed x.row.name.pred x.clause low.clause x.instance x.since from x.from x.was args waiting.before waiting.from_le since low.confined
+          confined = confined_later d g formed x.row.name.pred x.clause low.clause x.instance x.since from x.from x.was args waiting.before waiting.from_le
+              since low.confined
               (confined_args d g formed rows x.row x.clause x.literal x.rest x.state x.instance x.was x.from low);
         };
         below = waiting.below;
@@ -111,7 +126,8 @@ module _ (d : PlainDomain) (g : ProgramView) (laws : IsLawful (as_domain d) (as_
       }))
 
   -- a builtin gives way to its meaning
-  pub test_step : (r : Row (as_domain d)) (c : Clause) (b : Literal) (rest : List Literal) (st : StateView) (i : ℕ → Term) (was : List Term) (n from : ℕ) (fs : List (Frame d)) (lower : List Item) (s : Bindings)
+  pub test_step : (r : Row (as_domain d)) (c : Clause) (b : Literal) (rest : List Literal) (st : StateView) (i : ℕ → Term) (was : List Term) (n from : ℕ)
+      (fs : List (Frame d)) (lower : List Item) (s : Bindings)
       → IsActive d g rows r c (b ∷ rest) st i was from → b.target ≡ target.Builtin → IsFrom c.variables n i → from ≤ n
       → IsStack d g rows fs n from r.name was (map (under i) c.head) lower
       → Means b.name (map (under i) b.args) n (Some s)
@@ -128,7 +144,8 @@ module _ (d : PlainDomain) (g : ProgramView) (laws : IsLawful (as_domain d) (as_
       let local : IsLocal f n args = allowed_local d actions n args f (λ x j. subst (λ k. acts_within k x) (sym same) (within x j)) args_lt allowed in
       let going = going_target d rows r c b target.Builtin rest st is active.going in
       let confined = confined_args d g formed rows r c b rest st i was from active in
-      let (after, state, going') = refined d g formed sound.acts_truly rows r c active.clause b part (steps_of rest) actions within st i n f active.state below allowed going in
+      let (after, state, going') = refined d g formed sound.acts_truly rows r c active.clause b part (steps_of rest) actions within st i n f active.state
+      below allowed going in
       let le : n ≤ past n s = past_le n s in
       record {
         row = r;
@@ -157,7 +174,8 @@ module _ (d : PlainDomain) (g : ProgramView) (laws : IsLawful (as_domain d) (as_
       }
 
   -- a goal gives way to the body of a clause
-  pub clause_step : (n : ℕ) (p : PredKey) (ts : List Term) (rest : List Item) (c : Clause) (s : Bindings) → IsPending d g rows n p ts rest → IsIn c (clauses_of g p)
+  pub clause_step : (n : ℕ) (p : PredKey) (ts : List Term) (rest : List Item) (c : Clause) (s : Bindings) → IsPending d g rows n p ts rest
+      → IsIn c (clauses_of g p)
       → UnifiesTo (map (under (raised n)) c.head) ts (Unified s)
       → IsUnderWay d g rows (n + c.variables) (items_under (bound_to s) (goals_of (raised n) c.body ++ Mark p ts ts ∷ rest))
   clause_step n p ts rest c s goal inside h =
@@ -180,8 +198,10 @@ module _ (d : PlainDomain) (g : ProgramView) (laws : IsLawful (as_domain d) (as_
       let (st, is, state) = sound.acts_truly.enter c.head c.variables (head_is g formed p c inside) goal.call ts n s as_many goal.describes goal.below h in
       let name_is = goal.name_is in
       let inside' : IsIn c (clauses_of g goal.row.name.pred) = subst (λ (y : NameOf (as_domain d)). IsIn c (clauses_of g y.pred)) (sym name_is) inside in
-      let enters : (d.enter goal.row.name.call c.head c.variables).value ≡ Some st = subst (λ (y : NameOf (as_domain d)). (d.enter y.call c.head c.variables).value ≡ Some st) (sym name_is) is in
-      let stack = stack_later d g formed rows f n m ts le local brought goal.frames n (name_of (as_domain d) p goal.call) ts ts rest (λ w o. inl o) goal.stack in
+      let enters : (d.enter goal.row.name.call c.head c.variables).value ≡ Some st =
+      subst (λ (y : NameOf (as_domain d)). (d.enter y.call c.head c.variables).value ≡ Some st) (sym name_is) is in
+      let stack = stack_later d g formed rows f n m ts le local brought goal.frames n (name_of (as_domain d) p goal.call) ts ts rest (λ w o. inl o)
+      goal.stack in
       record {
         row = goal.row;
         clause = c;
@@ -215,11 +235,13 @@ module _ (d : PlainDomain) (g : ProgramView) (laws : IsLawful (as_domain d) (as_
         from_le = le;
         items_are =
             at_mark p c.body f n ts (map (under i) c.head) now_is goal.row.name.pred (ap (λ (y : NameOf (as_domain d)). y.pred) (sym name_is)) rest;
-        stack = subst (λ (y : NameOf (as_domain d)). IsStack d g rows (map (advanced d f) goal.frames) m n y ts (map (under i) c.head) (items_under f rest)) (sym name_is)
+        stack = subst (λ (y : NameOf (as_domain d)). IsStack d g rows (map (advanced d f) goal.frames) m n y ts (map (under i) c.head) (items_under f rest))
+            (sym name_is)
             (subst (λ hs. IsStack d g rows (map (advanced d f) goal.frames) m n (name_of (as_domain d) p goal.call) ts hs (items_under f rest)) now_is stack);
       }
     where
-      at_mark : (p : PredKey) (xs : List Literal) (f : ℕ → Term) (n : ℕ) (ts hs : List Term) → map (under f) ts ≡ hs → (q : PredKey) → p ≡ q → (rest : List Item)
+      at_mark : (p : PredKey) (xs : List Literal) (f : ℕ → Term) (n : ℕ) (ts hs : List Term) → map (under f) ts ≡ hs → (q : PredKey) → p ≡ q
+          → (rest : List Item)
           → items_under f (goals_of (raised n) xs ++ Mark p ts ts ∷ rest) ≡ goals_of (then_also (raised n) f) xs ++ Mark q ts hs ∷ items_under f rest
       at_mark p xs f n ts hs e q same rest =
           map-append (item_under f) (goals_of (raised n) xs) (Mark p ts ts ∷ rest)
@@ -228,14 +250,16 @@ module _ (d : PlainDomain) (g : ProgramView) (laws : IsLawful (as_domain d) (as_
           ∙ ap (λ r. goals_of (then_also (raised n) f) xs ++ Mark r ts hs ∷ items_under f rest) same
 
   -- a literal at the front is a goal with a row
-  pub call_pending : (r : Row (as_domain d)) (c : Clause) (l : Literal) (q : PredKey) (rest : List Literal) (st : StateView) (i : ℕ → Term) (was : List Term) (n from : ℕ) (fs : List (Frame d)) (lower : List Item)
+  pub call_pending : (r : Row (as_domain d)) (c : Clause) (l : Literal) (q : PredKey) (rest : List Literal) (st : StateView) (i : ℕ → Term) (was : List Term)
+      (n from : ℕ) (fs : List (Frame d)) (lower : List Item)
       → IsActive d g rows r c (l ∷ rest) st i was from → l.target ≡ target.Pred q → IsFrom c.variables n i → from ≤ n
       → IsStack d g rows fs n from r.name was (map (under i) c.head) lower
       → IsPending d g rows n q (map (under i) l.args) (goals_of i rest ++ Mark r.name.pred was (map (under i) c.head) ∷ lower)
   call_pending r c l q rest st i was n from fs lower active is below from_le stack =
       let part = active.part l (inl refl) in
       let callee : Calling = record { pred = q; args = l.args } in
-      let (row, there, named) = going_call (as_domain d) rows r c callee (steps_of rest) st (going_target d rows r c l (target.Pred q) rest st is active.going) in
+      let (row, there, named) = going_call (as_domain d) rows r c callee (steps_of rest) st
+      (going_target d rows r c l (target.Pred q) rest st is active.going) in
       let ts : List Term = map (under i) l.args in
       let ts_below : AreBelow n ts = args_below d g formed r.name.pred c active.clause l part n i below in
       let x : Frame d = record { row = r; clause = c; literal = l; callee = q; rest = rest; state = st; instance = i; since = Var; was = was; from = from } in
@@ -245,7 +269,8 @@ module _ (d : PlainDomain) (g : ProgramView) (laws : IsLawful (as_domain d) (as_
         frames = x ∷ fs;
         in_rows = there;
         name_is = named;
-        describes = sound.acts_truly.call c.head c.variables st i l.args (head_is g formed r.name.pred c active.clause) (args_are g formed r.name.pred c active.clause l part) active.state;
+        describes = sound.acts_truly.call c.head c.variables st i l.args (head_is g formed r.name.pred c active.clause)
+            (args_are g formed r.name.pred c active.clause l part) active.state;
         below = ts_below;
         as_many = length-map l.args (under i) ∙ sym (callee_arity g formed r.name.pred c active.clause l part q is);
         stack = (

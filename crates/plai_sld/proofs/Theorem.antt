@@ -48,11 +48,16 @@ module _ (d : PlainDomain) (g : ProgramView) (laws : IsLawful (as_domain d) (as_
   pending_step : (n : ℕ) (p : PredKey) (ts : List Term) (rest : List Item) (choice : ℕ) (after : RunState) → IsPending d g rows n p ts rest
       → LeadsTo g (Call p ts ∷ rest) n choice after → IsGood d g rows after
   pending_step n p ts rest choice after goal (c, e, s, h, is) =
-      subst (IsGood d g rows) (sym is) (inr (inl (clause_step d g laws formed sound meant rows closed n p ts rest c s goal (numbered_in (clauses_of g p) choice c e) h)))
+      subst (IsGood d g rows) (sym is) (inr (inl
+      (clause_step d g laws formed sound meant rows closed n p ts rest c s goal (numbered_in (clauses_of g p) choice c e) h)))
 
   pending_front : (n : ℕ) (p : PredKey) (ts : List Term) (rest : List Item) → IsPending d g rows n p ts rest → IsCallTold d rows p ts
-  pending_front n p ts rest goal =
-      (goal.row, goal.in_rows, ap (λ (y : NameOf (as_domain d)). y.pred) goal.name_is, subst (λ (y : NameOf (as_domain d)). d.describes y.call ts) (sym goal.name_is) goal.describes)
+  pending_front n p ts rest goal = (
+    goal.row,
+    goal.in_rows,
+    ap (λ (y : NameOf (as_domain d)). y.pred) goal.name_is,
+    subst (λ (y : NameOf (as_domain d)). d.describes y.call ts) (sym goal.name_is) goal.describes,
+  )
 
   module _ (r : Row (as_domain d)) (c : Clause) (st : StateView) (i : ℕ → Term) (was : List Term) (n from : ℕ) (fs : List (Frame d)) (lower : List Item)
       (below : IsFrom c.variables n i) (from_le : from ≤ n) (stack : IsStack d g rows fs n from r.name was (map (under i) c.head) lower) where
@@ -62,12 +67,14 @@ module _ (d : PlainDomain) (g : ProgramView) (laws : IsLawful (as_domain d) (as_
         subst (IsGood d g rows) (sym e) (mark_step d g laws formed sound meant rows closed r c st i was n from fs lower active stack)
     way_step (l ∷ rest) active choice after e = at l.target refl e
       where
-        at : (t : Target) → l.target ≡ t → LeadsTo g (goal_at i l t ∷ goals_of i rest ++ Mark r.name.pred was (map (under i) c.head) ∷ lower) n choice after → IsGood d g rows after
+        at : (t : Target) → l.target ≡ t → LeadsTo g (goal_at i l t ∷ goals_of i rest ++ Mark r.name.pred was (map (under i) c.head) ∷ lower) n choice after
+            → IsGood d g rows after
         at (target.Pred q) is e =
             pending_step n q (map (under i) l.args) (goals_of i rest ++ Mark r.name.pred was (map (under i) c.head) ∷ lower) choice after
             (call_pending d g laws formed sound meant rows closed r c l q rest st i was n from fs lower active is below from_le stack) e
         at target.Builtin is (s, means, e) =
-            subst (IsGood d g rows) (sym e) (inr (inl (test_step d g laws formed sound meant rows closed r c l rest st i was n from fs lower s active is below from_le stack means)))
+            subst (IsGood d g rows) (sym e) (inr (inl
+            (test_step d g laws formed sound meant rows closed r c l rest st i was n from fs lower s active is below from_le stack means)))
 
     way_front : (rest : List Literal) → IsActive d g rows r c rest st i was from
         → IsFrontTold d rows (goals_of i rest ++ Mark r.name.pred was (map (under i) c.head) ∷ lower)
@@ -102,7 +109,8 @@ module _ (d : PlainDomain) (g : ProgramView) (laws : IsLawful (as_domain d) (as_
   good_start : (p : PredKey) (ts : List Term) → IsDescribedGoal d g p ts → IsGood d g rows (start_of p ts)
   good_start p ts (entry, inside, same, told, as_many) =
       let v : Abs = (entry_name d entry).call in
-      let (r, there, is) = closed.entries (name_of (as_domain d) entry.pred v) (in_mapped (λ e. name_of (as_domain d) e.pred (entry_name d e).call) entry g.entries inside) in
+      let (r, there, is) = closed.entries (name_of (as_domain d) entry.pred v)
+      (in_mapped (λ e. name_of (as_domain d) e.pred (entry_name d e).call) entry g.entries inside) in
       inl (
         p,
         ts,
@@ -120,7 +128,8 @@ module _ (d : PlainDomain) (g : ProgramView) (laws : IsLawful (as_domain d) (as_
         },
       )
 
-  pub rows_tell : (p : PredKey) (ts : List Term) → IsDescribedGoal d g p ts → (choices : List ℕ) (last : RunState) → IsRun g (start_of p ts) choices last → IsFrontTold d rows last.items
+  pub rows_tell : (p : PredKey) (ts : List Term) → IsDescribedGoal d g p ts → (choices : List ℕ) (last : RunState) → IsRun g (start_of p ts) choices last
+      → IsFrontTold d rows last.items
   rows_tell p ts goal choices last run = good_front last (good_run (start_of p ts) choices last (good_start p ts goal) run)
 
 -- what the theory's rows tell of a front, the rows of the table do
@@ -142,17 +151,21 @@ front_described d rows (Mark p was now ∷ rest) (r, i, is, called, a, answer, t
     )
 
 -- Theorem: every call and every answer of every run from a described goal is described by the rows of a closed list.
-pub closed_rows_describe : (d : PlainDomain) (g : ProgramView) → IsLawful (as_domain d) (as_program d g) → IsWellFormed g → IsSound d → AreMeant → (rows : List PlainRow) → IsClosed d g rows → AreRunsDescribed d g rows
+pub closed_rows_describe : (d : PlainDomain) (g : ProgramView) → IsLawful (as_domain d) (as_program d g) → IsWellFormed g → IsSound d → AreMeant
+    → (rows : List PlainRow) → IsClosed d g rows → AreRunsDescribed d g rows
 closed_rows_describe d g laws formed sound meant rows closed p ts goal choices last run =
     front_described d rows last.items (rows_tell d g laws formed sound meant (map (row_of d) rows) closed p ts goal choices last run)
 
 -- the same by the laws of the domain
-pub closed_describes : (d : PlainDomain) → AreMeant → laws.IsLawful d → IsSound d → (g : ProgramView) → IsWellFormed g → (rows : List PlainRow) → IsClosed d g rows → AreRunsDescribed d g rows
+pub closed_describes : (d : PlainDomain) → AreMeant → laws.IsLawful d → IsSound d → (g : ProgramView) → IsWellFormed g → (rows : List PlainRow)
+    → IsClosed d g rows → AreRunsDescribed d g rows
 closed_describes d meant lawful sound g formed rows closed = closed_rows_describe d g (lawful_at d lawful g formed) formed sound meant rows closed
 
 -- the least table is closed
 pub least_closes : (d : PlainDomain) → laws.IsLawful d → (g : ProgramView) → IsWellFormed g → (rows : List PlainRow) → IsLeastTable d g rows → IsClosed d g rows
-least_closes d lawful g formed rows least = least_closed (as_domain d) (as_program d g) (lawful_at d lawful g formed) (before d) (strict d) (map (row_of d) rows) least.0 least.1
+least_closes d lawful g formed rows least =
+    least_closed (as_domain d) (as_program d g) (lawful_at d lawful g formed) (before d) (strict d) (map (row_of d) rows) least.0 least.1
 
-pub least_describes : (d : PlainDomain) → AreMeant → laws.IsLawful d → IsSound d → (g : ProgramView) → IsWellFormed g → (rows : List PlainRow) → IsLeastTable d g rows → AreRunsDescribed d g rows
+pub least_describes : (d : PlainDomain) → AreMeant → laws.IsLawful d → IsSound d → (g : ProgramView) → IsWellFormed g → (rows : List PlainRow)
+    → IsLeastTable d g rows → AreRunsDescribed d g rows
 least_describes d meant lawful sound g formed rows least = closed_describes d meant lawful sound g formed rows (least_closes d lawful g formed rows least)

@@ -26,7 +26,17 @@ use Rattle.plai_sld.specs.Runs.{RunState}
 use Rattle.plai_sld.specs.States.{AreItems}
 use Rattle.plai_sld.specs.Described.{IsDescribedGoal, IsFrontDescribed, AreRunsDescribed}
 use Rattle.plai_sld.specs.Verdicts.{IsReached, IsCalled, IsAnswered, Promises, IsKeptByRuns}
-use Rattle.plai_sld.proofs.Readings.{Excludes, AreCallsChecked, AreCallsFalse, AreAnswersChecked, AreAnswersFalse, calls_hold, calls_fail, answers_hold, answers_fail}
+use Rattle.plai_sld.proofs.Readings.{
+  Excludes,
+  AreCallsChecked,
+  AreCallsFalse,
+  AreAnswersChecked,
+  AreAnswersFalse,
+  calls_hold,
+  calls_fail,
+  answers_hold,
+  answers_fail,
+}
 use Rattle.plai_sld.proofs.Kept.{run_state, start_is_state}
 
 of_recursion : {A : Type 0} (P : A → Type 0) (xs : List A) → AllByRecursion P xs → (x : A) → IsIn x xs → P x
@@ -38,7 +48,8 @@ of_all : {A : Type 0} (P : A → Type 0) (xs : List A) → All P xs → (x : A) 
 of_all P xs h = of_recursion P xs (recursion_from_All P xs h)
 
 -- a goal of an entry's predicate whose arguments have the entry's properties is described
-pub has_entry : (p : PlainDomain) (g : ProgramView) → IsWellFormed g → IsSound p → (entry : Entry) → IsIn entry (entries_of g) → (args : List Term) → length args ≡ entry.pred.arity → has_properties args entry.pre
+pub has_entry : (p : PlainDomain) (g : ProgramView) → IsWellFormed g → IsSound p → (entry : Entry) → IsIn entry (entries_of g) → (args : List Term)
+    → length args ≡ entry.pred.arity → has_properties args entry.pre
     → IsDescribedGoal p g entry.pred args
 has_entry p g formed sound entry inside args many has =
     let all : All (speaks_within (length args)) entry.pre = subst (λ n. All (speaks_within n) entry.pre) (sym many) (formed.entries entry inside).pre in
@@ -47,18 +58,23 @@ has_entry p g formed sound entry inside args many has =
 module _ (p : PlainDomain) (g : ProgramView) (formed : IsWellFormed g) (sound : IsSound p) (rows : List PlainRow) (described : AreRunsDescribed p g rows) where
   -- a state that is reached, by its items
   reached_items : (state : RunState) → IsReached p g state → (items : List Item) → state.items ≡ items → AreItems state.next items
-  reached_items state (pred, args, goal, choices, run) items e = subst (AreItems state.next) e (run_state g formed _ choices state (start_is_state g formed pred args goal.4) run)
+  reached_items state (pred, args, goal, choices, run) items e =
+      subst (AreItems state.next) e (run_state g formed _ choices state (start_is_state g formed pred args goal.4) run)
 
   reached_front : (state : RunState) → IsReached p g state → (items : List Item) → state.items ≡ items → IsFrontDescribed p rows items
   reached_front state (pred, args, goal, choices, run) items e = subst (IsFrontDescribed p rows) e (described pred args goal choices state run)
 
-  not_excluded : (a : Abs) (props : List Prop) (ts : List Term) (n : ℕ) → length ts ≡ n → All (speaks_within n) props → p.describes a ts → has_properties ts props → Excludes p a props → ⊥
+  not_excluded : (a : Abs) (props : List Prop) (ts : List Term) (n : ℕ) → length ts ≡ n → All (speaks_within n) props → p.describes a ts
+      → has_properties ts props → Excludes p a props → ⊥
   not_excluded a props ts n many within told has (q, i, e) =
-      sound.tells_truly.excludes a q ts (subst (λ k. speaks_within k q) (sym many) (of_all (speaks_within n) props within q i)) told e (of_all (has_property ts) props has q i)
+      sound.tells_truly.excludes a q ts (subst (λ k. speaks_within k q) (sym many) (of_all (speaks_within n) props within q i)) told e
+      (of_all (has_property ts) props has q i)
 
-  all_entailed : (a : Abs) (props : List Prop) (ts : List Term) (n : ℕ) → length ts ≡ n → All (speaks_within n) props → p.describes a ts → ((q : Prop) → IsIn q props → p.entails a q ≡ true) → has_properties ts props
+  all_entailed : (a : Abs) (props : List Prop) (ts : List Term) (n : ℕ) → length ts ≡ n → All (speaks_within n) props → p.describes a ts
+      → ((q : Prop) → IsIn q props → p.entails a q ≡ true) → has_properties ts props
   all_entailed a props ts n many within told h =
-      all_in (has_property ts) props (λ q i. sound.tells_truly.entails a q ts (subst (λ k. speaks_within k q) (sym many) (of_all (speaks_within n) props within q i)) told (h q i))
+      all_in (has_property ts) props (λ q i. sound.tells_truly.entails a q ts
+      (subst (λ k. speaks_within k q) (sym many) (of_all (speaks_within n) props within q i)) told (h q i))
 
   module _ (check : Check) (good : IsWellFormedCheck check) where
     calls_checked : AreCallsChecked p rows check → (args : List Term) → IsCalled p g check.pred args → has_properties args check.pre
@@ -73,7 +89,8 @@ module _ (p : PlainDomain) (g : ProgramView) (formed : IsWellFormed g) (sound : 
         let (row, i, is, told) = reached_front state reached (Call check.pred args ∷ rest) e in
         not_excluded row.name.call check.pre args check.pred.arity items.0.0 good.pre told has (h row i is)
 
-    answers_checked : AreAnswersChecked p rows check → (was now : List Term) → IsAnswered p g check.pred was now → has_properties was check.pre → has_properties now check.post
+    answers_checked : AreAnswersChecked p rows check → (was now : List Term) → IsAnswered p g check.pred was now → has_properties was check.pre
+        → has_properties now check.post
     answers_checked h was now (state, reached, rest, e) has =
         let items = reached_items state reached (Mark check.pred was now ∷ rest) e in
         let (row, i, is, called, a, answer, told) = reached_front state reached (Mark check.pred was now ∷ rest) e in
@@ -82,7 +99,8 @@ module _ (p : PlainDomain) (g : ProgramView) (formed : IsWellFormed g) (sound : 
           | inr all ↦ all_entailed a check.post now check.pred.arity items.0.1 good.post told (all a answer)
         ]
 
-    answers_false : AreAnswersFalse p rows check → (was now : List Term) → IsAnswered p g check.pred was now → has_properties was check.pre → has_properties now check.post → ⊥
+    answers_false : AreAnswersFalse p rows check → (was now : List Term) → IsAnswered p g check.pred was now → has_properties was check.pre
+        → has_properties now check.post → ⊥
     answers_false h was now (state, reached, rest, e) has those =
         let items = reached_items state reached (Mark check.pred was now ∷ rest) e in
         let (row, i, is, called, a, answer, told) = reached_front state reached (Mark check.pred was now ∷ rest) e in

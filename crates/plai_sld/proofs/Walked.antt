@@ -1,5 +1,30 @@
 -- Walks that find numbers above the variables of terms.
-use Rattle.std.proofs.Common.{◌≡◌, ◌≢◌, ℕ, suc, ◌+◌, ◌<◌, max, ℤ, List, [], ◌∷◌, ◌++◌, map, flat_map, take, length, get_or, Bor, refl, sym, ap, ◌∙◌, rules, arith}
+use Rattle.std.proofs.Common.{
+  ◌≡◌,
+  ◌≢◌,
+  ℕ,
+  suc,
+  ◌+◌,
+  ◌<◌,
+  max,
+  ℤ,
+  List,
+  [],
+  ◌∷◌,
+  ◌++◌,
+  map,
+  flat_map,
+  take,
+  length,
+  get_or,
+  Bor,
+  refl,
+  sym,
+  ap,
+  ◌∙◌,
+  rules,
+  arith,
+}
 use Rattle.std.specs.List.{AllByRecursion}
 use Rattle.std.proofs.lemmas.List.{take_more, map-append}
 use Rattle.plai_terms.specs.Preorder.{arguments_of, preorder, referred}
@@ -67,19 +92,22 @@ is_walked = induction IsWalked
     (λ a. leaf (Atom a) 0 (arguments_of-Atom a) (own_limit-Atom a) (search (rules, the_lemmas)))
     (λ name args h.
     let whole : walked (preorder (Compound name args)) ≡ max (own_limit (Compound name args)) (walked (flat_map preorder args)) =
-    ap walked (preorder_is (Compound name args)) ∙ ap (λ ts. max (own_limit (Compound name args)) (walked (flat_map preorder ts))) (arguments_of-Compound name args) in
+    ap walked (preorder_is (Compound name args))
+    ∙ ap (λ ts. max (own_limit (Compound name args)) (walked (flat_map preorder ts))) (arguments_of-Compound name args) in
     let own : own_limit (Compound name args) ≡ 0 = own_limit-Compound name args in
     let others : walked (flat_map preorder args) ≡ highest (map limit_of args) = all_walked args h in
     let all : limit_of (Compound name args) ≡ highest (map limit_of args) = limit_of-Compound name args in
     omega arith)
 
 -- a step of the walk over a term's subterms, and its end
-pub walk_on : (nodes : List (Bor Term)) (i : ℕ) (node : Bor Term) (limit after : ℕ) → i < length nodes → node ≡ get_or nodes i node → limit ≡ walked (referred (take i nodes)) → after ≡ max limit (own_limit node.now)
+pub walk_on : (nodes : List (Bor Term)) (i : ℕ) (node : Bor Term) (limit after : ℕ) → i < length nodes → node ≡ get_or nodes i node
+    → limit ≡ walked (referred (take i nodes)) → after ≡ max limit (own_limit node.now)
     → after ≡ walked (referred (take (i + 1) nodes))
 walk_on nodes i node limit after lt is before e =
     let cut : referred (take (i + 1) nodes) ≡ referred (take i nodes) ++ node.now ∷ [] =
     ap referred (take_more nodes i node lt ∙ ap (λ x. take i nodes ++ x ∷ []) (sym is)) ∙ map-append (λ (x : Bor Term). x.now) (take i nodes) (node ∷ []) in
-    let more : walked (referred (take (i + 1) nodes)) ≡ max (walked (referred (take i nodes))) (max (own_limit node.now) 0) = ap walked cut ∙ walked-append (referred (take i nodes)) (node.now ∷ []) in
+    let more : walked (referred (take (i + 1) nodes)) ≡ max (walked (referred (take i nodes))) (max (own_limit node.now) 0) =
+    ap walked cut ∙ walked-append (referred (take i nodes)) (node.now ∷ []) in
     omega arith
 
 pub walk_ends : (nodes : List (Bor Term)) (t : Term) → referred nodes ≡ preorder t → walked (referred nodes) ≡ limit_of t
@@ -90,7 +118,8 @@ limit_in-append : (ts : List Term) (t : Term) → limit_in (ts ++ t ∷ []) ≡ 
 limit_in-append [] t = omega arith
 limit_in-append (u ∷ ts) t = let e : limit_in (ts ++ t ∷ []) ≡ max (limit_in ts) (limit_of t) = limit_in-append ts t in omega arith
 
-pub terms_on : (ts : List Term) (i : ℕ) (t : Term) (limit after : ℕ) → i < length ts → t ≡ get_or ts i t → limit ≡ limit_in (take i ts) → after ≡ max limit (limit_of t) → after ≡ limit_in (take (i + 1) ts)
+pub terms_on : (ts : List Term) (i : ℕ) (t : Term) (limit after : ℕ) → i < length ts → t ≡ get_or ts i t → limit ≡ limit_in (take i ts)
+    → after ≡ max limit (limit_of t) → after ≡ limit_in (take (i + 1) ts)
 terms_on ts i t limit after lt is before e =
     let cut : take (i + 1) ts ≡ take i ts ++ t ∷ [] = take_more ts i t lt ∙ ap (λ x. take i ts ++ x ∷ []) (sym is) in
     let more : limit_in (take (i + 1) ts) ≡ max (limit_in (take i ts)) (limit_of t) = ap limit_in cut ∙ limit_in-append (take i ts) t in
@@ -100,7 +129,8 @@ past-append : (n : ℕ) (bs : Bindings) (b : ℕ × Term) → past n (bs ++ b �
 past-append n [] b = omega arith
 past-append n (c ∷ bs) b = let e : past n (bs ++ b ∷ []) ≡ max (past n bs) (limit_of b.1) = past-append n bs b in omega arith
 
-pub bindings_on : (n : ℕ) (bs : Bindings) (i : ℕ) (b : ℕ × Term) (limit after : ℕ) → i < length bs → b ≡ get_or bs i b → limit ≡ past n (take i bs) → after ≡ max limit (limit_of b.1) → after ≡ past n (take (i + 1) bs)
+pub bindings_on : (n : ℕ) (bs : Bindings) (i : ℕ) (b : ℕ × Term) (limit after : ℕ) → i < length bs → b ≡ get_or bs i b → limit ≡ past n (take i bs)
+    → after ≡ max limit (limit_of b.1) → after ≡ past n (take (i + 1) bs)
 bindings_on n bs i b limit after lt is before e =
     let cut : take (i + 1) bs ≡ take i bs ++ b ∷ [] = take_more bs i b lt ∙ ap (λ x. take i bs ++ x ∷ []) (sym is) in
     let more : past n (take (i + 1) bs) ≡ max (past n (take i bs)) (limit_of b.1) = ap (past n) cut ∙ past-append n (take i bs) b in

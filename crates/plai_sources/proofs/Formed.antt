@@ -1,5 +1,39 @@
 -- What terms say is well formed.
-use Rattle.std.proofs.Common.{◌≡◌, ◌∙◌, ℕ, ◌+◌, ◌≤◌, ◌<◌, ◌⊎◌, inl, inr, Bool, true, false, not, ◌&&◌, cond, Option, Some, None, Result, Ok, Err, List, [], ◌∷◌, ◌++◌, length, add-zero, refl, sym, ap, subst, arith, codes}
+use Rattle.std.proofs.Common.{
+  ◌≡◌,
+  ◌∙◌,
+  ℕ,
+  ◌+◌,
+  ◌≤◌,
+  ◌<◌,
+  ◌⊎◌,
+  inl,
+  inr,
+  Bool,
+  true,
+  false,
+  not,
+  ◌&&◌,
+  cond,
+  Option,
+  Some,
+  None,
+  Result,
+  Ok,
+  Err,
+  List,
+  [],
+  ◌∷◌,
+  ◌++◌,
+  length,
+  add-zero,
+  refl,
+  sym,
+  ap,
+  subst,
+  arith,
+  codes,
+}
 use Rattle.std.specs.Prelude.{All, option_map, option_and_then, ok_or, position, nat_le, nat_lt, nat_eq, IfSome, IsOk}
 use Rattle.std.specs.Cmp.Lexicographic.{pointwise}
 use Rattle.std.proofs.lemmas.Bool.Decides.{nat_tests}
@@ -34,10 +68,63 @@ use Rattle.plai_sources.specs.declared.items.NumberedItem.{NumberedItem}
 use Rattle.plai_sources.specs.declared.reading.Reading.{Reading}
 use Rattle.plai_sources.specs.Shapes.{variable_of, one_argument, each}
 use Rattle.plai_sources.specs.Keys.{keys_of}
-use Rattle.plai_sources.specs.Properties.{are_distinct, open_goal, goal_at, goal_in, goal_of, place_among, place_of, property_named, apart, property_at, property_in, property_of, properties_of, call, call_with, call_from, call_of, entry, entry_of, check, calls_of, success_with, success_of, check_from, check_of}
+use Rattle.plai_sources.specs.Properties.{
+  are_distinct,
+  open_goal,
+  goal_at,
+  goal_in,
+  goal_of,
+  place_among,
+  place_of,
+  property_named,
+  apart,
+  property_at,
+  property_in,
+  property_of,
+  properties_of,
+  call,
+  call_with,
+  call_from,
+  call_of,
+  entry,
+  entry_of,
+  check,
+  calls_of,
+  success_with,
+  success_of,
+  check_from,
+  check_of,
+}
 use Rattle.plai_sources.specs.Operators.{operators_of}
-use Rattle.plai_sources.specs.Directives.{Said, other_module, import, import_all, import_some, item_of_one, item_of_two, with_item, with_operators, directive_at, directive_in, clause_from, said_from, said_by, header_of}
-use Rattle.plai_sources.specs.Items.{most_items, is_counted, placed, with_item as with_placed, with_item_if, under, with_said, with_header, with_term_under, with_term}
+use Rattle.plai_sources.specs.Directives.{
+  Said,
+  other_module,
+  import,
+  import_all,
+  import_some,
+  item_of_one,
+  item_of_two,
+  with_item,
+  with_operators,
+  directive_at,
+  directive_in,
+  clause_from,
+  said_from,
+  said_by,
+  header_of,
+}
+use Rattle.plai_sources.specs.Items.{
+  most_items,
+  is_counted,
+  placed,
+  with_item as with_placed,
+  with_item_if,
+  under,
+  with_said,
+  with_header,
+  with_term_under,
+  with_term,
+}
 use Rattle.plai_sources.specs.WellFormed.{IsEntryItem, IsCheckItem, IsWellFormedItem, AreWellFormedUnder, counted_items, IsGood}
 use Rattle.plai_sources.proofs.Each.{length-each, All-each}
 
@@ -109,9 +196,11 @@ place_of-within vs t p h =
 
 named-within : (n : ℕ) (name : List ℕ) (place : ℕ) (p : Prop) → (1 ≤ place) × (place ≤ n) → property_named name place ≡ Some p → speaks_within n p
 named-within n name place p h e =
-    first (pointwise nat_eq name (codes "ground")) (pointwise nat_eq name (codes "var")) (pointwise nat_eq name (codes "nonvar")) (pointwise nat_eq name (codes "int")) e
+    first (pointwise nat_eq name (codes "ground")) (pointwise nat_eq name (codes "var")) (pointwise nat_eq name (codes "nonvar"))
+    (pointwise nat_eq name (codes "int")) e
   where
-    first : (a b c d : Bool) → cond a (Some (property.Ground place)) (cond b (Some (property.Var place)) (cond c (Some (property.Nonvar place)) (cond d (Some (property.Int place)) None))) ≡ Some p → speaks_within n p
+    first : (a b c d : Bool) → cond a (Some (property.Ground place))
+        (cond b (Some (property.Var place)) (cond c (Some (property.Nonvar place)) (cond d (Some (property.Int place)) None))) ≡ Some p → speaks_within n p
     first true b c d e = let is : property.Ground place ≡ p = cc in subst (speaks_within n) is h
     first false true c d e = let is : property.Var place ≡ p = cc in subst (speaks_within n) is h
     first false false true d e = let is : property.Nonvar place ≡ p = cc in subst (speaks_within n) is h
@@ -129,7 +218,8 @@ property_at-within vs name (x ∷ []) p h =
     let (i, place, named) = chained (property_named name) (place_of vs x) p h in
     named-within (length vs) name i p (place_of-within vs x i place) named
 property_at-within vs name (x ∷ y ∷ []) p h =
-    let (is, rest) = passed (pointwise nat_eq name (codes "indep")) (option_and_then (λ first. option_and_then (apart first) (place_of vs y)) (place_of vs x)) p h in
+    let (is, rest) = passed (pointwise nat_eq name (codes "indep"))
+    (option_and_then (λ first. option_and_then (apart first) (place_of vs y)) (place_of vs x)) p h in
     let (i, one, others) = chained (λ first. option_and_then (apart first) (place_of vs y)) (place_of vs x) p rest in
     let (j, other, both) = chained (apart i) (place_of vs y) p others in
     apart-within (length vs) i j p (place_of-within vs x i one) (place_of-within vs y j other) both
@@ -167,7 +257,8 @@ entry_of-formed t e h =
     let f = call_from-formed t (two_arguments (codes ":") t) c made in
     subst IsEntryItem is (record { definable = f.defined; few = definable-few c.goal.name (length c.goal.variables) f.defined; pre = f.pre })
 
-check-formed : (kind : CheckKind) (c : Call) (post : List Prop) → IsFormed c → All (speaks_within (length c.goal.variables)) post → IsCheckItem (check kind c post)
+check-formed : (kind : CheckKind) (c : Call) (post : List Prop) → IsFormed c → All (speaks_within (length c.goal.variables)) post
+    → IsCheckItem (check kind c post)
 check-formed kind c post f all = record { definable = f.defined; few = definable-few c.goal.name (length c.goal.variables) f.defined; pre = f.pre; post = all }
 
 calls_of-formed : (t : Term) (e : CheckItem) → calls_of t ≡ Some e → IsCheckItem e
@@ -181,7 +272,8 @@ success_of-formed t e h =
     let (p, two, rest) = chained success_with (two_arguments (codes "=>") t) e h in
     let (c, made, more) = chained (λ c. option_map (check Success c) (properties_of c.goal.variables p.1)) (call_of p.0) e rest in
     let (post, all, is) = mapped (check Success c) (properties_of c.goal.variables p.1) e more in
-    subst IsCheckItem is (check-formed Success c post (call_from-formed p.0 (two_arguments (codes ":") p.0) c made) (properties_of-within c.goal.variables p.1 post all))
+    subst IsCheckItem is (check-formed Success c post (call_from-formed p.0 (two_arguments (codes ":") p.0) c made)
+    (properties_of-within c.goal.variables p.1 post all))
 
 check_from-formed : (calls success : Option Term) (e : CheckItem) → check_from calls success ≡ Some e → IsCheckItem e
 check_from-formed (Some t) success e h = calls_of-formed t e h
@@ -213,7 +305,9 @@ module _ (own : List ℕ) where
   one-formed name x i h = cases (pointwise nat_eq name (codes "use_module")) (pointwise nat_eq name (codes "entry")) (pointwise nat_eq name (codes "check")) h
     where
       cases : (a b c : Bool)
-          → cond a (ok_or (import_all own x) cause.BadDirective) (cond b (ok_or (option_map item.Entry (entry_of x)) cause.BadProperty) (cond c (ok_or (option_map item.Check (check_of x)) cause.BadProperty) (Err cause.BadDirective))) ≡ Ok i
+          → cond a (ok_or (import_all own x) cause.BadDirective)
+          (cond b (ok_or (option_map item.Entry (entry_of x)) cause.BadProperty)
+          (cond c (ok_or (option_map item.Check (check_of x)) cause.BadProperty) (Err cause.BadDirective))) ≡ Ok i
           → IsWellFormedItem own i
       cases true b c h = import_all-formed x i (found (import_all own x) cause.BadDirective i h)
       cases false true c h = entry-item x i (found (option_map item.Entry (entry_of x)) cause.BadProperty i h)
@@ -230,7 +324,8 @@ module _ (own : List ℕ) where
   abbrev Speaks : Said → Type 0
   Speaks s = IfSome s.item (IsWellFormedItem own)
 
-  with_item-formed : (table : Table) (r : Result Item LoadCause) (s : Said) → ((i : Item) → r ≡ Ok i → IsWellFormedItem own i) → with_item table r ≡ Ok s → Speaks s
+  with_item-formed : (table : Table) (r : Result Item LoadCause) (s : Said) → ((i : Item) → r ≡ Ok i → IsWellFormedItem own i)
+      → with_item table r ≡ Ok s → Speaks s
   with_item-formed table (Err c) s f h = absurd cc
   with_item-formed table (Ok i) s f h =
       let made : Said = record { operators = table; item = Some i } in
@@ -261,13 +356,15 @@ module _ (own : List ℕ) where
   directive_in-formed table (Term-F.Atom a) s h = absurd cc
   directive_in-formed table (Term-F.Compound name args) s h = directive_at-formed table name args s h
 
-  clause-formed : (read : ReadTerm) (r : Result Clause ClauseCause) (i : Item) → IsReadable read → r ≡ clause_of own [] read → clause_from read r ≡ Ok i → IsWellFormedItem own i
+  clause-formed : (read : ReadTerm) (r : Result Clause ClauseCause) (i : Item) → IsReadable read → r ≡ clause_of own [] read → clause_from read r ≡ Ok i
+      → IsWellFormedItem own i
   clause-formed read (Err c) i readable e h = absurd cc
   clause-formed read (Ok c) i readable e h =
       let is : item.Clause read ≡ i = cc in
       subst (IsWellFormedItem own) is (record { readable = readable; says = subst IsOk e refl })
 
-  said_from-formed : (table : Table) (read : ReadTerm) (directive query : Option Term) (s : Said) → IsReadable read → said_from own table read directive query ≡ Ok s → Speaks s
+  said_from-formed : (table : Table) (read : ReadTerm) (directive query : Option Term) (s : Said) → IsReadable read
+      → said_from own table read directive query ≡ Ok s → Speaks s
   said_from-formed table read (Some d) query s readable h = directive_in-formed table (out-Term d) s h
   said_from-formed table read None (Some q) s readable h = absurd cc
   said_from-formed table read None None s readable h =
@@ -297,15 +394,18 @@ module _ (there : ℕ) where
       let before : (x : NumberedItem) → IsIn x r.items → IsWellFormedItem h.module x.item = subst (λ o. AreWellFormedUnder o r.items) e good.items in
       let new : NumberedItem = record { term = n; item = i } in
       record {
-        items = subst (λ o. AreWellFormedUnder o (r.items ++ new ∷ [])) (sym e) (pushed (λ (x : NumberedItem). IsWellFormedItem h.module x.item) r.items new before one);
+        items = subst (λ o. AreWellFormedUnder o (r.items ++ new ∷ [])) (sym e)
+            (pushed (λ (x : NumberedItem). IsWellFormedItem h.module x.item) r.items new before one);
         count = let c = good.count in let p = counted_items-push r.items new in omega arith;
         few = few;
       }
 
-  with_placed-good : (r s : Reading) (n : ℕ) (i : Item) (h : Header) → r.header ≡ Some h → IsWellFormedItem h.module i → IsGood there r → with_placed r n i ≡ Ok s → IsGood there s
+  with_placed-good : (r s : Reading) (n : ℕ) (i : Item) (h : Header) → r.header ≡ Some h → IsWellFormedItem h.module i → IsGood there r
+      → with_placed r n i ≡ Ok s → IsGood there s
   with_placed-good r s n i h e one good made = counted (is_counted i) (nat_lt r.count most_items) refl refl made
     where
-      counted : (b c : Bool) → is_counted i ≡ b → nat_lt r.count most_items ≡ c → cond b (cond c (Ok (placed r n i (r.count + 1))) (Err cause.TooManyItems)) (Ok (placed r n i r.count)) ≡ Ok s → IsGood there s
+      counted : (b c : Bool) → is_counted i ≡ b → nat_lt r.count most_items ≡ c
+          → cond b (cond c (Ok (placed r n i (r.count + 1))) (Err cause.TooManyItems)) (Ok (placed r n i r.count)) ≡ Ok s → IsGood there s
       counted true true k t made =
           let room : r.count < most_items = grind (arith, nat_tests) in
           let is : placed r n i (r.count + 1) ≡ s = cc in
@@ -317,11 +417,13 @@ module _ (there : ℕ) where
           let more : cond {A = ℕ} (is_counted i) 1 0 ≡ 0 = ap (λ x. cond x 1 0) k in
           subst (IsGood there) is (placed-good r n i r.count h e one good good.few (sym (ap (λ m. r.count + m) more ∙ add-zero r.count)))
 
-  item-good : (r s : Reading) (n : ℕ) (o : Option Item) (h : Header) → r.header ≡ Some h → IfSome o (IsWellFormedItem h.module) → IsGood there r → with_item_if r n o ≡ Ok s → IsGood there s
+  item-good : (r s : Reading) (n : ℕ) (o : Option Item) (h : Header) → r.header ≡ Some h → IfSome o (IsWellFormedItem h.module) → IsGood there r
+      → with_item_if r n o ≡ Ok s → IsGood there s
   item-good r s n None h e one good made = let is : r ≡ s = cc in subst (IsGood there) is good
   item-good r s n (Some i) h e one good made = with_placed-good r s n i h e one good made
 
-  said-good : (r s : Reading) (n : ℕ) (said : Result Said LoadCause) (h : Header) → r.header ≡ Some h → ((x : Said) → said ≡ Ok x → Speaks h.module x) → IsGood there r → with_said r n said ≡ Ok s → IsGood there s
+  said-good : (r s : Reading) (n : ℕ) (said : Result Said LoadCause) (h : Header) → r.header ≡ Some h → ((x : Said) → said ≡ Ok x → Speaks h.module x)
+      → IsGood there r → with_said r n said ≡ Ok s → IsGood there s
   said-good r s n (Err c) h e f good made = absurd cc
   said-good r s n (Ok x) h e f good made =
       let good' : IsGood there (under x.operators r) = record { items = good.items; count = good.count; few = good.few } in
@@ -337,7 +439,8 @@ module _ (there : ℕ) where
       subst (λ (l : List NumberedItem). (x : NumberedItem) → IsIn x l → IsWellFormedItem h.module x.item) (sym empty) (λ x k. absurd k) in
       subst (IsGood there) is (record { items = none; count = good.count; few = good.few })
 
-  term_under-good : (o : Option Header) (r s : Reading) (n : ℕ) (read : ReadTerm) → r.header ≡ o → IsReadable read → IsGood there r → with_term_under o r n read ≡ Ok s → IsGood there s
+  term_under-good : (o : Option Header) (r s : Reading) (n : ℕ) (read : ReadTerm) → r.header ≡ o → IsReadable read → IsGood there r
+      → with_term_under o r n read ≡ Ok s → IsGood there s
   term_under-good None r s n read e readable good made = header-good r s (ok_or (header_of read.term) cause.NoModule) e good made
   term_under-good (Some h) r s n read e readable good made =
       said-good r s n (said_by h.module r.operators read) h e

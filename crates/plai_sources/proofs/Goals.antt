@@ -35,7 +35,8 @@ goals_of-Compound : (name : List ℕ) (args : List Term)
     → goals_of (Compound name args) ≡ (if is_conjunction name (length args) then flat_map goals_of args else Compound name args ∷ [])
 goals_of-Compound name args =
     ap (λ p. p.1) (with_goals-Compound name args)
-    ∙ ap (λ n. if is_conjunction name n then flat_map (λ p. p.1) (map with_goals args) else Compound name (map (λ p. p.0) (map with_goals args)) ∷ []) (length-map args with_goals)
+    ∙ ap (λ n. if is_conjunction name n then flat_map (λ p. p.1) (map with_goals args) else Compound name (map (λ p. p.0) (map with_goals args)) ∷ [])
+    (length-map args with_goals)
     ∙ ap (λ gs. if is_conjunction name (length args) then gs else Compound name (map (λ p. p.0) (map with_goals args)) ∷ []) (fused args)
     ∙ ap (λ ts. if is_conjunction name (length args) then flat_map goals_of args else Compound name ts ∷ []) (parts args)
 
@@ -48,5 +49,6 @@ goals_of-single name args e = goals_of-Compound name args ∙ ap (λ b. if b the
 pub single_at : (t : Term) (name : List ℕ) (args : List Term) → t ≡ Compound name args → is_conjunction name (length args) ≡ false → goals_of t ≡ t ∷ []
 single_at t name args e f = ap goals_of e ∙ goals_of-single name args f ∙ ap (λ x. x ∷ []) (sym e)
 
-pub joined_at : (t : Term) (name : List ℕ) (args parts : List Term) → t ≡ Compound name args → parts ≡ args → is_conjunction name (length args) ≡ true → goals_of t ≡ flat_map goals_of parts
+pub joined_at : (t : Term) (name : List ℕ) (args parts : List Term) → t ≡ Compound name args → parts ≡ args → is_conjunction name (length args) ≡ true
+    → goals_of t ≡ flat_map goals_of parts
 joined_at t name args parts e s f = ap goals_of e ∙ goals_of-joined name args f ∙ ap (flat_map goals_of) (sym s)

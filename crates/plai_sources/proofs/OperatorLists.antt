@@ -1,5 +1,31 @@
 -- Operators added one by one.
-use Rattle.std.proofs.Common.{◌≡◌, ◌∙◌, ℕ, ◌+◌, ◌<◌, suc, Option, Some, None, Result, Err, List, [], ◌∷◌, ◌++◌, length, take, drop, get_or, take-append-drop, drop-cons, refl, sym, ap, subst}
+use Rattle.std.proofs.Common.{
+  ◌≡◌,
+  ◌∙◌,
+  ℕ,
+  ◌+◌,
+  ◌<◌,
+  suc,
+  Option,
+  Some,
+  None,
+  Result,
+  Err,
+  List,
+  [],
+  ◌∷◌,
+  ◌++◌,
+  length,
+  take,
+  drop,
+  get_or,
+  take-append-drop,
+  drop-cons,
+  refl,
+  sym,
+  ap,
+  subst,
+}
 use Rattle.std.proofs.lemmas.List.{take_more}
 use Rattle.std.specs.Prelude.{option_and_then}
 use Rattle.plai_reader.specs.declared.operator.OpKind.{OpKind}
@@ -34,7 +60,8 @@ module _ (p : ℕ) (k : OpKind) where
         ∙ ap (option_and_then (λ v. with_each v p k (get_or names i x ∷ []))) all
         ∙ ap (λ n. with_each u p k (n ∷ [])) (sym e) ∙ one
 
-    none_added : i < length names → x ≡ get_or names i x → with_each t p k (take i names) ≡ Some u → with_each u p k (x ∷ []) ≡ None → with_each t p k names ≡ None
+    none_added : i < length names → x ≡ get_or names i x → with_each t p k (take i names) ≡ Some u → with_each u p k (x ∷ []) ≡ None
+        → with_each t p k names ≡ None
     none_added h e all one =
         ap (with_each t p k) (sym (take-append-drop i names)) ∙ with_each-append (take i names) (drop i names) t
         ∙ ap (option_and_then (λ v. with_each v p k (drop i names))) all
@@ -42,7 +69,8 @@ module _ (p : ℕ) (k : OpKind) where
         ∙ stays (refusal u p k x) (with_operator u p k x) (with_each (with_operator u p k x) p k (drop (suc i) names)) one
 
     -- one operator is refused
-    pub one_refused : (new : Table) (stop : Stop) (r : Result (Unit {0}) Stop) → i < length names → x ≡ get_or names i x → with_each t p k (take i names) ≡ Some u
+    pub one_refused : (new : Table) (stop : Stop) (r : Result (Unit {0}) Stop) → i < length names → x ≡ get_or names i x
+        → with_each t p k (take i names) ≡ Some u
         → Changes (with_each u p k (x ∷ [])) new (Err stop) → (y : Stop) × (r ≡ Err y) × (y ≡ stop) → Changes (with_each t p k names) new r
     one_refused new Memory r h e all one q = let same : r ≡ Err Memory = q.1 ∙ ap (λ s. Err s) q.2 in subst (Changes (with_each t p k names) new) (sym same) tt
     one_refused new Unfit r h e all one q =

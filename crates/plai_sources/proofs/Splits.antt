@@ -5,14 +5,27 @@ use Rattle.plai_lex.specs.Tokens.{Tokens, with_tokens}
 use Rattle.plai_reader.specs.Roles.{is_end}
 use Rattle.plai_sources.specs.declared.cause.LoadCause.{LoadCause}
 use Rattle.plai_sources.specs.declared.reading.Reading.{Reading}
-use Rattle.plai_sources.specs.Items.{refusal, Split, with_first, split, last_cause, with_tokens as with_term, ended_by, numbered, and_then, items_from, items_of_tokens}
+use Rattle.plai_sources.specs.Items.{
+  refusal,
+  Split,
+  with_first,
+  split,
+  last_cause,
+  with_tokens as with_term,
+  ended_by,
+  numbered,
+  and_then,
+  items_from,
+  items_of_tokens,
+}
 use Rattle.plai_sources.specs.Answering.{AreInside, IsWhole}
 
 pub AreInside-push : (xs : List Token) (x : Token) → AreInside xs → is_end x.kind ≡ false → AreInside (xs ++ x ∷ [])
 AreInside-push [] x h e = (e, tt)
 AreInside-push (y ∷ xs) x h e = (h.0, AreInside-push xs x h.1 e)
 
-with_one : (b : Bool) (x : Token) (s : Split) (e : b ≡ false) → cond b (record { terms = (x ∷ []) ∷ s.terms; rest = s.rest }) (with_first x s.terms s.rest) ≡ with_first x s.terms s.rest
+with_one : (b : Bool) (x : Token) (s : Split) (e : b ≡ false)
+    → cond b (record { terms = (x ∷ []) ∷ s.terms; rest = s.rest }) (with_first x s.terms s.rest) ≡ with_first x s.terms s.rest
 with_one false x s e = refl
 with_one true x s e = absurd cc
 
@@ -34,7 +47,8 @@ split-inside (x ∷ xs) h =
 
 -- a whole term is taken
 pub takes_whole : (r : Reading) (number : ℕ) (tokens : List Token) (left : Tokens) → IsWhole tokens
-    → items_of_tokens r number (with_tokens tokens left) ≡ and_then (numbered number (with_term r number tokens)) (λ next. items_of_tokens next (number + 1) left)
+    → items_of_tokens r number (with_tokens tokens left)
+    ≡ and_then (numbered number (with_term r number tokens)) (λ next. items_of_tokens next (number + 1) left)
 takes_whole r number tokens left w =
     let same : split (tokens ++ left.tokens) ≡ record { terms = tokens ∷ (split left.tokens).terms; rest = (split left.tokens).rest } =
     ap (λ ts. split (ts ++ left.tokens)) w.is ∙ split-whole w.before w.last left.tokens w.inside w.ends
@@ -42,7 +56,8 @@ takes_whole r number tokens left w =
     ap (λ (s : Split). items_from r number s.terms (last_cause left.failure s.rest)) same
 
 -- what is left is refused
-pub refuses_rest : (r : Reading) (number : ℕ) (left : Tokens) (cause : LoadCause) → (split left.tokens).terms ≡ [] → last_cause left.failure (split left.tokens).rest ≡ Some cause
+pub refuses_rest : (r : Reading) (number : ℕ) (left : Tokens) (cause : LoadCause) → (split left.tokens).terms ≡ []
+    → last_cause left.failure (split left.tokens).rest ≡ Some cause
     → items_of_tokens r number left ≡ Err (refusal number cause)
 refuses_rest r number left cause none some =
     ap (λ ts. items_from r number ts (last_cause left.failure (split left.tokens).rest)) none ∙ ap (ended_by r number) some

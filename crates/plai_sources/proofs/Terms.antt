@@ -1,5 +1,33 @@
 -- One term of a file, and the tokens of terms as they are taken.
-use Rattle.std.proofs.Common.{◌≡◌, ◌∙◌, ℕ, ◌+◌, ◌≤◌, true, Option, Some, None, Result, Ok, Err, Vec, Global, List, [], ◌∷◌, ◌++◌, length, append_assoc, append-nil, length-append, refl, sym, ap, subst, arith}
+use Rattle.std.proofs.Common.{
+  ◌≡◌,
+  ◌∙◌,
+  ℕ,
+  ◌+◌,
+  ◌≤◌,
+  true,
+  Option,
+  Some,
+  None,
+  Result,
+  Ok,
+  Err,
+  Vec,
+  Global,
+  List,
+  [],
+  ◌∷◌,
+  ◌++◌,
+  length,
+  append_assoc,
+  append-nil,
+  length-append,
+  refl,
+  sym,
+  ap,
+  subst,
+  arith,
+}
 use Rattle.std.specs.Prelude.{All, IfOk, IfSome}
 use Rattle.plai_lex.specs.declared.token.Token.{Token}
 use Rattle.plai_lex.specs.Tokens.{Tokens, with_token, with_tokens, ended, IsWritten}
@@ -17,7 +45,22 @@ use Rattle.plai_sources.specs.declared.items.Item.{Item}
 use Rattle.plai_sources.specs.declared.items.FileItems.{FileItems}
 use Rattle.plai_sources.specs.declared.reading.Reading.{Reading}
 use Rattle.plai_sources.specs.Directives.{said_by}
-use Rattle.plai_sources.specs.Items.{Refusal, refusal, split, last_cause, with_item_if, with_said, with_term_under, with_term, with_tokens as with_tokens_of, finished, finished_under, numbered, and_then, items_of_tokens}
+use Rattle.plai_sources.specs.Items.{
+  Refusal,
+  refusal,
+  split,
+  last_cause,
+  with_item_if,
+  with_said,
+  with_term_under,
+  with_term,
+  with_tokens as with_tokens_of,
+  finished,
+  finished_under,
+  numbered,
+  and_then,
+  items_of_tokens,
+}
 use Rattle.plai_sources.specs.WellFormed.{IsGood, counted_items, AreWellFormedItems, AreWellFormedUnder}
 use Rattle.plai_sources.specs.Answering.{Answers, AnswersFile, AreInside, IsWhole, TakesToken, Ends, Takes, Numbers}
 use Rattle.plai_sources.proofs.Formed.{term-good}
@@ -33,25 +76,30 @@ add_said r n read h ops i res e said a =
     ∙ ap (λ (o : Option Header). let s : Reading = record { operators = ops; header = o; items = r.items; count = r.count } in with_item_if s n i) e in
     subst (λ o. Answers o res) (sym same) a
 
-pub good_if : (there : ℕ) (r : Reading) (n : ℕ) (read : ReadTerm) (res : Result Reading TermFail) → IsReadable read → Answers (with_term r n read) res → IsGood there r
+pub good_if : (there : ℕ) (r : Reading) (n : ℕ) (read : ReadTerm) (res : Result Reading TermFail) → IsReadable read → Answers (with_term r n read) res
+    → IsGood there r
     → IfOk res (IsGood there)
 good_if there r n read (Ok s) readable a good = term-good there r s n read readable good a
 good_if there r n read (Err fail) readable a good = tt
 
 -- one more token is taken
-pub one_taken : (all left new : Tokens) (ts after : List Token) (x : Token) → all ≡ with_tokens ts left → left ≡ with_token x new → after ≡ ts ++ x ∷ [] → all ≡ with_tokens after new
+pub one_taken : (all left new : Tokens) (ts after : List Token) (x : Token) → all ≡ with_tokens ts left → left ≡ with_token x new → after ≡ ts ++ x ∷ []
+    → all ≡ with_tokens after new
 one_taken all left new ts after x e f g =
     e ∙ ap (with_tokens ts) f
-    ∙ (let s : with_tokens ts (with_token x new) ≡ with_tokens (ts ++ x ∷ []) new = ap (λ l. let t : Tokens = record { tokens = l; failure = new.failure } in t) (sym (append_assoc ts (x ∷ []) new.tokens)) in s)
+    ∙ (let s : with_tokens ts (with_token x new) ≡ with_tokens (ts ++ x ∷ []) new =
+    ap (λ l. let t : Tokens = record { tokens = l; failure = new.failure } in t) (sym (append_assoc ts (x ∷ []) new.tokens)) in s)
     ∙ ap (λ l. with_tokens l new) (sym g)
 
-pub whole_taken : (all left new : Tokens) (ts after : List Token) (x : Token) → AreInside ts → is_end x.kind ≡ true → all ≡ with_tokens ts left → left ≡ with_token x new → after ≡ ts ++ x ∷ []
+pub whole_taken : (all left new : Tokens) (ts after : List Token) (x : Token) → AreInside ts → is_end x.kind ≡ true → all ≡ with_tokens ts left
+    → left ≡ with_token x new → after ≡ ts ++ x ∷ []
     → IsWhole after × (all ≡ with_tokens after new)
 whole_taken all left new ts after x inside ends e f g =
     (record { before = ts; last = x; inside = inside; ends = ends; is = g }, one_taken all left new ts after x e f g)
 
 -- what is left when a place has no token
-left_refused : (all left : Tokens) (ts : List Token) (cause : LoadCause) → AreInside ts → all ≡ with_tokens ts left → left.tokens ≡ [] → last_cause left.failure ts ≡ Some cause
+left_refused : (all left : Tokens) (ts : List Token) (cause : LoadCause) → AreInside ts → all ≡ with_tokens ts left → left.tokens ≡ []
+    → last_cause left.failure ts ≡ Some cause
     → ((split all.tokens).terms ≡ []) × (last_cause all.failure (split all.tokens).rest ≡ Some cause)
 left_refused all left ts cause inside e none some =
     let tokens : all.tokens ≡ ts = ap (λ (t : Tokens). t.tokens) e ∙ ap (λ l. ts ++ l) none ∙ append-nil ts in
@@ -60,7 +108,8 @@ left_refused all left ts cause inside e none some =
       ap (λ l. last_cause all.failure (split l).rest) tokens ∙ ap (last_cause all.failure) (inside_rest ts inside) ∙ ap (λ f. last_cause f ts) failure ∙ some,
     )
 
-pub refused_token : (all left new : Tokens) (ts : List Token) (fail : TermFail) (r : Result (Option (Vec Token Global)) TermFail) → AreInside ts → all ≡ with_tokens ts left
+pub refused_token : (all left new : Tokens) (ts : List Token) (fail : TermFail) (r : Result (Option (Vec Token Global)) TermFail) → AreInside ts
+    → all ≡ with_tokens ts left
     → TakesToken left new (Err fail) → (y : TermFail) × (r ≡ Err y) × (y ≡ fail) → Takes all new r
 refused_token all left new ts (term.Memory) r inside e t q =
     let same : r ≡ Err term.Memory = q.1 ∙ ap (λ f. Err f) q.2 in subst (Takes all new) (sym same) tt
@@ -68,7 +117,8 @@ refused_token all left new ts (term.Refused cause) r inside e t q =
     let same : r ≡ Err (term.Refused cause) = q.1 ∙ ap (λ f. Err f) q.2 in
     subst (Takes all new) (sym same) (left_refused all left ts cause inside e t.0 (t.1 ts))
 
-pub at_end : (all left new : Tokens) (ts : List Token) (given : Result (Option (Vec Token Global)) TermFail) → AreInside ts → all ≡ with_tokens ts left → left ≡ ended
+pub at_end : (all left new : Tokens) (ts : List Token) (given : Result (Option (Vec Token Global)) TermFail) → AreInside ts → all ≡ with_tokens ts left
+    → left ≡ ended
     → Ends ts given → Takes all new given
 at_end all left new ts (Ok None) inside e end h = e ∙ ap (λ l. with_tokens l left) h ∙ end
 at_end all left new ts (Ok (Some v)) inside e end h = absurd h
@@ -106,12 +156,14 @@ module _ (r : Reading) (n : ℕ) (ts : List Token) (left new : Tokens) (whole : 
       sym (ap (λ o. and_then (numbered n o) (λ next. items_of_tokens next (n + 1) new)) read)
       ∙ sym (takes_whole r n ts new w) ∙ sym (ap (items_of_tokens r n) e) ∙ same
 
-  refused : (cause : LoadCause) → items_of_tokens r n left ≡ whole → IsWhole ts → left ≡ with_tokens ts new → with_tokens_of r n ts ≡ Err cause → whole ≡ Err (refusal n cause)
+  refused : (cause : LoadCause) → items_of_tokens r n left ≡ whole → IsWhole ts → left ≡ with_tokens ts new
+      → with_tokens_of r n ts ≡ Err cause → whole ≡ Err (refusal n cause)
   refused cause same w e a =
       sym same ∙ ap (items_of_tokens r n) e ∙ takes_whole r n ts new w ∙ ap (λ o. and_then (numbered n o) (λ next. items_of_tokens next (n + 1) new)) a
 
   -- the term is refused
-  pub stops : (given : Result Reading TermFail) (fail : ItemsFail) (res : Result FileItems ItemsFail) → items_of_tokens r n left ≡ whole → IsWhole ts → left ≡ with_tokens ts new
+  pub stops : (given : Result Reading TermFail) (fail : ItemsFail) (res : Result FileItems ItemsFail) → items_of_tokens r n left ≡ whole → IsWhole ts
+      → left ≡ with_tokens ts new
       → Answers (with_tokens_of r n ts) given → Numbers n given (Err fail) → (y : ItemsFail) × (res ≡ Err y) × (y ≡ fail) → AnswersFile whole res
   stops given (file.Memory) res same w e a g q =
       let is : res ≡ Err file.Memory = q.1 ∙ ap (λ f. Err f) q.2 in subst (AnswersFile whole) (sym is) tt
@@ -121,7 +173,8 @@ module _ (r : Reading) (n : ℕ) (ts : List Token) (left new : Tokens) (whole : 
       subst (AnswersFile whole) (sym is) (refused cause same w e read ∙ ap (λ k. Err (refusal k cause)) (sym g.0))
 
 -- what is kept of a file is well formed
-finished-formed : (there : ℕ) (o : Option Header) (r : Reading) (f : FileItems) → r.header ≡ o → IsGood there r → finished_under o r ≡ Ok f → AreWellFormedItems f
+finished-formed : (there : ℕ) (o : Option Header) (r : Reading) (f : FileItems) → r.header ≡ o → IsGood there r → finished_under o r ≡ Ok f
+    → AreWellFormedItems f
 finished-formed there None r f e good h = absurd cc
 finished-formed there (Some header) r f e good h =
     let made : FileItems = record { «module» = header.module; exports = header.exports; items = r.items; count = r.count } in
@@ -132,7 +185,8 @@ pub finishes-formed : (there : ℕ) (r : Reading) (res : Result FileItems ItemsF
 finishes-formed there r (Ok f) good a = finished-formed there r.header r f refl good a
 finishes-formed there r (Err fail) good a = tt
 
-finished-counted : (there : ℕ) (o : Option Header) (r : Reading) (f : FileItems) → IsGood there r → finished_under o r ≡ Ok f → f.count ≡ there + counted_items f.items
+finished-counted : (there : ℕ) (o : Option Header) (r : Reading) (f : FileItems) → IsGood there r → finished_under o r ≡ Ok f
+    → f.count ≡ there + counted_items f.items
 finished-counted there None r f good h = absurd cc
 finished-counted there (Some header) r f good h =
     let made : FileItems = record { «module» = header.module; exports = header.exports; items = r.items; count = r.count } in

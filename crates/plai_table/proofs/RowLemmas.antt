@@ -1,5 +1,39 @@
 -- Rows of a table under its calls.
-use Rattle.std.proofs.Common.{◌≡◌, ℕ, zero, suc, ◌+◌, ◌<◌, ◌≤◌, Bool, true, false, cond, not, ◌&&◌, List, [], ◌∷◌, ◌++◌, length, slice_get, zero-add, Option, Some, None, position, is_some, get_or, IfSome, refl, sym, ap, ◌∙◌, subst, arith}
+use Rattle.std.proofs.Common.{
+  ◌≡◌,
+  ℕ,
+  zero,
+  suc,
+  ◌+◌,
+  ◌<◌,
+  ◌≤◌,
+  Bool,
+  true,
+  false,
+  cond,
+  not,
+  ◌&&◌,
+  List,
+  [],
+  ◌∷◌,
+  ◌++◌,
+  length,
+  slice_get,
+  zero-add,
+  Option,
+  Some,
+  None,
+  position,
+  is_some,
+  get_or,
+  IfSome,
+  refl,
+  sym,
+  ap,
+  ◌∙◌,
+  subst,
+  arith,
+}
 use Rattle.std.specs.Map.{keys_of}
 use Rattle.std.specs.List.{swap_remove, IsDistinct}
 use Rattle.std.proofs.lemmas.Option.{get_or_from_slice_get, slice_get_within}
@@ -109,16 +143,20 @@ module _ {V : Type 0} where
   same_key same_call a b = (pred_eq.ghosts).eq a.pred b.pred && same_call a.call b.call
 
   -- a new name goes last
-  pub added : {S : Type 0} (same_call : V → V → Bool) (m : IndexMap (Key V) (Contents V) S) (t : TableView V) (name : Key V) (w : Contents V) (new : List (Key V × Contents V))
+  pub added : {S : Type 0} (same_call : V → V → Bool) (m : IndexMap (Key V) (Contents V) S) (t : TableView V) (name : Key V) (w : Contents V)
+      (new : List (Key V × Contents V))
       → view_of m ≡ t → position (same_key same_call name) (names_of t.rows) ≡ None → new ≡ insert_entry (same_key same_call) m.entries name w
       → rows_in new ≡ t.rows ++ row_of (name, w) ∷ []
   added same_call m t name w new view none e =
       let rows : rows_in m.entries ≡ t.rows = ap (λ (v : TableView V). v.rows) view in
-      let absent : get (same_key same_call) m name ≡ None = absent_in (same_key same_call) m name (ap (λ rows. position (same_key same_call name) (names_of rows)) rows ∙ none) in
-      ap rows_in e ∙ ap rows_in (insert_entry-new (same_key same_call) m name w absent) ∙ push_in m.entries (name, w) ∙ ap (λ rows. rows ++ row_of (name, w) ∷ []) rows
+      let absent : get (same_key same_call) m name ≡ None =
+      absent_in (same_key same_call) m name (ap (λ rows. position (same_key same_call name) (names_of rows)) rows ∙ none) in
+      ap rows_in e ∙ ap rows_in (insert_entry-new (same_key same_call) m name w absent) ∙ push_in m.entries (name, w)
+      ∙ ap (λ rows. rows ++ row_of (name, w) ∷ []) rows
 
   -- the number of live rows after one is added
-  pub live_added : (rows new : List (TableRow V)) (r : TableRow V) (live : ℕ) → r.live ≡ true → new ≡ rows ++ r ∷ [] → live ≡ live_count rows → live + 1 ≡ live_count new
+  pub live_added : (rows new : List (TableRow V)) (r : TableRow V) (live : ℕ) → r.live ≡ true → new ≡ rows ++ r ∷ [] → live ≡ live_count rows
+      → live + 1 ≡ live_count new
   live_added rows new r live is e n =
       let k : live_count new ≡ live_count rows + cond r.live 1 0 = ap live_count e ∙ live_push rows r in
       let l : live_count new ≡ live_count rows + 1 = subst (λ b. live_count new ≡ live_count rows + cond b 1 0) is k in omega arith
@@ -148,7 +186,9 @@ module _ {V : Type 0} where
       → ((r : TableRow V) → slice_get rows i ≡ Some r → r.live ≡ was) → (r : TableRow V) × (slice_get rows i ≡ Some r) → live ≡ live_count rows
       → live + cond (not was) 1 0 ≡ live_count new
   woken rows new i live was e says (r, at) n =
-      let k : live_count (row_changed (with_live true) rows i) + cond was 1 0 ≡ live_count rows + 1 = subst (λ b. live_count (row_changed (with_live true) rows i) + cond b 1 0 ≡ live_count rows + 1) (says r at) (live_changed (with_live true) rows i r at) in
+      let k : live_count (row_changed (with_live true) rows i) + cond was 1 0 ≡ live_count rows + 1 =
+      subst (λ b. live_count (row_changed (with_live true) rows i) + cond b 1 0 ≡ live_count rows + 1) (says r at)
+      (live_changed (with_live true) rows i r at) in
       let both : cond was 1 0 + cond (not was) 1 0 ≡ 1 = by_mark was in
       let l : live_count new ≡ live_count (row_changed (with_live true) rows i) = ap live_count e in
       omega arith
@@ -157,7 +197,9 @@ module _ {V : Type 0} where
       → ((r : TableRow V) → slice_get rows i ≡ Some r → r.live ≡ was) → (r : TableRow V) × (slice_get rows i ≡ Some r) → live ≡ live_count rows
       → live_count new + cond was 1 0 ≡ live
   slept rows new i live was e says (r, at) n =
-      let k : live_count (row_changed (with_live false) rows i) + cond was 1 0 ≡ live_count rows + 0 = subst (λ b. live_count (row_changed (with_live false) rows i) + cond b 1 0 ≡ live_count rows + 0) (says r at) (live_changed (with_live false) rows i r at) in
+      let k : live_count (row_changed (with_live false) rows i) + cond was 1 0 ≡ live_count rows + 0 =
+      subst (λ b. live_count (row_changed (with_live false) rows i) + cond b 1 0 ≡ live_count rows + 0) (says r at)
+      (live_changed (with_live false) rows i r at) in
       let l : live_count new ≡ live_count (row_changed (with_live false) rows i) = ap live_count e in
       omega arith
 
@@ -165,12 +207,14 @@ module _ {V : Type 0} where
       → ((r : TableRow V) → slice_get rows i ≡ Some r → r.live ≡ was) → (r : TableRow V) × (slice_get rows i ≡ Some r) → live ≡ live_count rows
       → live_count new + cond was 1 0 ≡ live
   taken rows new i live was e says (r, at) n =
-      let k : live_count (swap_remove rows i r) + cond was 1 0 ≡ live_count rows = subst (λ b. live_count (swap_remove rows i r) + cond b 1 0 ≡ live_count rows) (says r at) (live_removed rows i r at) in
+      let k : live_count (swap_remove rows i r) + cond was 1 0 ≡ live_count rows =
+      subst (λ b. live_count (swap_remove rows i r) + cond b 1 0 ≡ live_count rows) (says r at) (live_removed rows i r at) in
       let l : live_count new ≡ live_count (swap_remove rows i r) = ap live_count (e r at) in
       omega arith
 
   -- the row that is taken away
-  pub taken_away : (entries new : List (Key V × Contents V)) (i : ℕ) (o : Option (Key V × Contents V)) (p : Key V × Contents V) → o ≡ Some p → o ≡ slice_get entries i
+  pub taken_away : (entries new : List (Key V × Contents V)) (i : ℕ) (o : Option (Key V × Contents V)) (p : Key V × Contents V) → o ≡ Some p
+      → o ≡ slice_get entries i
       → IfSome o (λ q. new ≡ swap_remove entries i q) → (r : TableRow V) → slice_get (rows_in entries) i ≡ Some r
       → (rows_in new ≡ swap_remove (rows_in entries) i r) × (r.live ≡ p.1.live)
   taken_away entries new i o p is at removed r h =

@@ -11,9 +11,35 @@ use Rattle.plai_terms.specs.declared.moves.Move.{Move}
 use Rattle.plai_terms.specs.declared.moves.Move.TheVariants.{Skip, Bind, Split, Differ, Contain}
 use Rattle.plai_terms.specs.declared.outcome.Outcome.{Outcome}
 use Rattle.plai_terms.specs.declared.outcome.Outcome.TheVariants.{Unified}
-use Rattle.plai_terms.proofs.Under.{under-Var, occurs-Var, occurs-Var_same, occurs-args, or_cases, or_first, or_second, decided, under_same, under_under, under_Var, source, under-composed}
+use Rattle.plai_terms.proofs.Under.{
+  under-Var,
+  occurs-Var,
+  occurs-Var_same,
+  occurs-args,
+  or_cases,
+  or_first,
+  or_second,
+  decided,
+  under_same,
+  under_under,
+  under_Var,
+  source,
+  under-composed,
+}
 use Rattle.plai_terms.proofs.MoveLaws.{IsMove, IsSplit, move_is}
-use Rattle.plai_terms.proofs.Solved.{single, single_cases, single-same, single-absent, absorbed, absorbed_under, put_left, unifies_append, append_unifies, split_unified, unified_split}
+use Rattle.plai_terms.proofs.Solved.{
+  single,
+  single_cases,
+  single-same,
+  single-absent,
+  absorbed,
+  absorbed_under,
+  put_left,
+  unifies_append,
+  append_unifies,
+  split_unified,
+  unified_split,
+}
 
 -- d is what the equations add to the bindings bs, which makes s of them
 pub record Extends (es : Equations) (bs s : Bindings) (d : ℕ → Term) : Type 0 where
@@ -93,7 +119,8 @@ term_there x v t es (inr k) w o =
     or_first (occurs w x.0 || occurs w x.1) (occurs_there w es) (or_first (occurs w x.0) (occurs w x.1) (ap (occurs w) k.0 ∙ o))
 
 -- the variables behind a binding are the equation's or the others'
-pub put_there : (x : Term × Term) (v : ℕ) (t : Term) (es : Equations) → Binds x v t → (w : ℕ) → occurs_there w (put v t es) ≡ true → occurs_there w (x ∷ es) ≡ true
+pub put_there : (x : Term × Term) (v : ℕ) (t : Term) (es : Equations) → Binds x v t → (w : ℕ) → occurs_there w (put v t es) ≡ true
+    → occurs_there w (x ∷ es) ≡ true
 put_there x v t es b w o =
     elim (put_left v t w es o) [
       | inl p ↦ term_there x v t es b w p
@@ -154,7 +181,8 @@ bind_extends x v t es bs s d a b k = record {
 }
 
 module _ (n : ℕ) (s : Bindings) (below : (es : Equations) (bs : Bindings) → solve n es bs ≡ Some (Unified s) → Extended es bs s) where
-  extends_by : (x : Term × Term) (es : Equations) (bs : Bindings) (m : Move) → IsMove x.0 x.1 m → going_on (solve n) (moved m es bs) ≡ Some (Unified s) → Extended (x ∷ es) bs s
+  extends_by : (x : Term × Term) (es : Equations) (bs : Bindings) (m : Move) → IsMove x.0 x.1 m → going_on (solve n) (moved m es bs) ≡ Some (Unified s)
+      → Extended (x ∷ es) bs s
   extends_by x es bs Skip h e =
       let (d, k) = below es bs e in (
         d,
@@ -202,7 +230,8 @@ abbrev IsSolution : Outcome → Type 0
 IsSolution o = (s : Bindings) × (o ≡ Unified s)
 
 module _ (n : ℕ) (o : Outcome) (f : ℕ → Term) (below : (es : Equations) (bs : Bindings) → solve n es bs ≡ Some o → Unifies f es → IsSolution o) where
-  solution_by : (x : Term × Term) (es : Equations) (bs : Bindings) (m : Move) → IsMove x.0 x.1 m → going_on (solve n) (moved m es bs) ≡ Some o → Unifies f (x ∷ es) → IsSolution o
+  solution_by : (x : Term × Term) (es : Equations) (bs : Bindings) (m : Move) → IsMove x.0 x.1 m → going_on (solve n) (moved m es bs) ≡ Some o
+      → Unifies f (x ∷ es) → IsSolution o
   solution_by x es bs Skip h e u = below es bs e u.1
   solution_by x es bs (Bind v t) h e u = below (put v t es) (composed bs ((v, t) ∷ [])) e (unified_put f v t (binder_unified f x v t h.1 u.0) es u.1)
   solution_by x es bs (Split ds) h e u = below (ds ++ es) bs e (append_unifies f ds es (unified_split f x.0 x.1 ds h u.0) u.1)

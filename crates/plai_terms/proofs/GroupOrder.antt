@@ -45,7 +45,8 @@ all_placed : (P : List ℕ → Type 0) (x : List ℕ) (ys : List (List ℕ)) →
 all_placed P x [] h a = (h, tt)
 all_placed P x (y ∷ ys) h a = all_cond P (is_le (R x y)) (x ∷ y ∷ ys) (y ∷ placed x ys) (h, a) (a.0, all_placed P x ys h a.1)
 
-all_above : (x y : List ℕ) (ys : List (List ℕ)) → is_gt (R x y) ≡ false → AllByRecursion (λ z. is_gt (R y z) ≡ false) ys → AllByRecursion (λ z. is_gt (R x z) ≡ false) ys
+all_above : (x y : List ℕ) (ys : List (List ℕ)) → is_gt (R x y) ≡ false → AllByRecursion (λ z. is_gt (R y z) ≡ false) ys
+    → AllByRecursion (λ z. is_gt (R x z) ≡ false) ys
 all_above x y [] h a = tt
 all_above x y (z ∷ zs) h a = (upto nat_list_cmp_total x y z h a.0, all_above x y zs h a.1)
 
@@ -65,7 +66,8 @@ up_ordered [] = tt
 up_ordered (x ∷ xs) = up_placed x (ordered xs) (up_ordered xs)
 
 module _ (f : List ℕ → ℕ) where
-  sum_cond : (b : Bool) (x y : List ℕ) (ys zs : List (List ℕ)) → sum_by f zs ≡ f x + sum_by f ys → sum_by f (cond b (x ∷ y ∷ ys) (y ∷ zs)) ≡ f x + sum_by f (y ∷ ys)
+  sum_cond : (b : Bool) (x y : List ℕ) (ys zs : List (List ℕ)) → sum_by f zs ≡ f x + sum_by f ys
+      → sum_by f (cond b (x ∷ y ∷ ys) (y ∷ zs)) ≡ f x + sum_by f (y ∷ ys)
   sum_cond true x y ys zs e = sum_by-cons f x (y ∷ ys)
   sum_cond false x y ys zs e = omega (arith, sum_by-cons f y zs, sum_by-cons f y ys, e)
 
@@ -79,7 +81,8 @@ module _ (f : List ℕ → ℕ) where
 
 module _ {X : Type 0} (items : X → List ℕ) where
   -- what a sort by the items of each leaves is the items in their order
-  pub sorted_is_ordered : (xs ys : List X) (zs : List (List ℕ)) → map items xs ≡ zs → IsPermutation xs ys → IsSorted (λ x y. R (items x) (items y)) ys → map items ys ≡ ordered zs
+  pub sorted_is_ordered : (xs ys : List X) (zs : List (List ℕ)) → map items xs ≡ zs → IsPermutation xs ys → IsSorted (λ x y. R (items x) (items y)) ys
+      → map items ys ≡ ordered zs
   sorted_is_ordered xs ys zs e p s =
       same_up R nat_list_cmp_total texts_tie (map items ys) (ordered zs)
       (up_map R items ys (up_from_sorted (λ x y. R (items x) (items y)) (on_total items nat_list_cmp_total) ys s))

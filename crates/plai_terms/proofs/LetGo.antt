@@ -44,7 +44,8 @@ takes_waiting s t args rest e =
     fewer_in_all (count_in (t ∷ rest)) (count_in (s ∷ args)) (length (preorder t)) (length (preorder s)) (omega (arith, a, b, c, d)) (omega (arith, b))
 
 -- a compound while none wait
-pub takes_arguments : (s t : Term) (name : List ℕ) (args rest : List Term) → s ≡ Compound name args → args ≡ rest ++ t ∷ [] → left_to_go t rest < left_to_go s []
+pub takes_arguments : (s t : Term) (name : List ℕ) (args rest : List Term) → s ≡ Compound name args → args ≡ rest ++ t ∷ []
+    → left_to_go t rest < left_to_go s []
 takes_arguments s t name args rest is e =
     let a = ap count_in e ∙ count_last rest t in
     let b = count_first t rest in

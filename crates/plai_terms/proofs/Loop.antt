@@ -1,5 +1,31 @@
 -- What the loop of unification keeps, and its measure.
-use Rattle.std.proofs.Common.{◌≡◌, ◌⊎◌, inl, inr, ℕ, zero, suc, ◌<◌, true, false, ◌||◌, eqb, nat_eq, List, [], ◌∷◌, ◌++◌, map, reverse, refl, sym, ap, subst, ◌∙◌, arith}
+use Rattle.std.proofs.Common.{
+  ◌≡◌,
+  ◌⊎◌,
+  inl,
+  inr,
+  ℕ,
+  zero,
+  suc,
+  ◌<◌,
+  true,
+  false,
+  ◌||◌,
+  eqb,
+  nat_eq,
+  List,
+  [],
+  ◌∷◌,
+  ◌++◌,
+  map,
+  reverse,
+  refl,
+  sym,
+  ap,
+  subst,
+  ◌∙◌,
+  arith,
+}
 use Rattle.std.specs.List.{list_any, IsDistinct}
 use Rattle.std.proofs.lemmas.Bool.{eqb-true, eq-eqb}
 use Rattle.std.proofs.lemmas.List.{map-append, reverse-append}
@@ -63,7 +89,8 @@ pub step_fewer : (l r : Term) (es fs : Equations) (bs cs : Bindings) → moved (
 step_fewer l r es fs bs cs e = fewer ((l, r) ∷ es) fs (left_after (move_of l r) es fs bs cs e)
 
 -- a step, seen from the end
-pub step_on : (l r : Term) (es fs : Equations) (bs cs : Bindings) (o : Outcome) → moved (move_of l r) es bs ≡ Go fs cs → Solves fs cs o → Solves ((l, r) ∷ es) bs o
+pub step_on : (l r : Term) (es fs : Equations) (bs cs : Bindings) (o : Outcome) → moved (move_of l r) es bs ≡ Go fs cs → Solves fs cs o
+    → Solves ((l, r) ∷ es) bs o
 unfolding solve
 step_on l r es fs bs cs o e (n, h) = (suc n, ap (going_on (solve n)) e ∙ h)
 
@@ -109,7 +136,8 @@ bound_gone v t es h =
       | inr k ↦ k
     ]
 
-apart_by : (m : Move) (x : Term × Term) (es fs : Equations) (bs cs : Bindings) → IsMove x.0 x.1 m → moved m es bs ≡ Go fs cs → AreApart bs (x ∷ es) → AreApart cs fs
+apart_by : (m : Move) (x : Term × Term) (es fs : Equations) (bs cs : Bindings) → IsMove x.0 x.1 m → moved m es bs ≡ Go fs cs → AreApart bs (x ∷ es)
+    → AreApart cs fs
 apart_by Skip x es fs bs cs h e a =
     let s : es ≡ fs = cc in
     let r : bs ≡ cs = cc in
@@ -157,7 +185,8 @@ reverse_more xs x = reverse-append xs (x ∷ [])
 map_reverse : {A B : Type 0} (f : A → B) (xs : List A) → map f (reverse xs) ≡ reverse (map f xs)
 map_reverse f [] = refl
 map_reverse f (x ∷ xs) =
-    ap (map f) (reverse_onto xs x []) ∙ map-append f (reverse xs) (x ∷ []) ∙ ap (λ ys. ys ++ f x ∷ []) (map_reverse f xs) ∙ sym (reverse_onto (map f xs) (f x) [])
+    ap (map f) (reverse_onto xs x []) ∙ map-append f (reverse xs) (x ∷ []) ∙ ap (λ ys. ys ++ f x ∷ []) (map_reverse f xs)
+    ∙ sym (reverse_onto (map f xs) (f x) [])
 
 pub bind_done : (m : Move) (v : ℕ) (t : Term) (s : Bindings) (waiting changed : Equations) (bs earlier pushed : Bindings) → m ≡ Bind v t → s ≡ (v, t) ∷ []
     → changed ≡ map (λ e. (apply_of s e.0, apply_of s e.1)) waiting → earlier ≡ map (λ p. (p.0, apply_of s p.1)) bs → pushed ≡ earlier ++ (v, t) ∷ []
@@ -170,17 +199,20 @@ bind_done m v t s waiting changed bs earlier pushed em es ec ee ep =
     let second : composed bs ((v, t) ∷ []) ≡ pushed = sym (ep ∙ ap (λ ys. ys ++ (v, t) ∷ []) (ee ∙ ap Q es)) in
     ap (λ m. moved m (reverse waiting) bs) em ∙ (λ i. Go (first i) (second i))
 
-pub progress_done : (l r : Term) (p : Progress) (es fs : Equations) (bs cs : Bindings) → IsProgress (move_of l r) p es bs fs cs → p ≡ progress.Done → moved (move_of l r) es bs ≡ Go fs cs
+pub progress_done : (l r : Term) (p : Progress) (es fs : Equations) (bs cs : Bindings) → IsProgress (move_of l r) p es bs fs cs → p ≡ progress.Done
+    → moved (move_of l r) es bs ≡ Go fs cs
 progress_done l r progress.Done es fs bs cs h e = h
 progress_done l r progress.Clash es fs bs cs h e = cc
 progress_done l r progress.Occurs es fs bs cs h e = cc
 
-pub progress_clash : (l r : Term) (p : Progress) (es fs : Equations) (bs cs : Bindings) → IsProgress (move_of l r) p es bs fs cs → p ≡ progress.Clash → moved (move_of l r) es bs ≡ Stop Clash
+pub progress_clash : (l r : Term) (p : Progress) (es fs : Equations) (bs cs : Bindings) → IsProgress (move_of l r) p es bs fs cs → p ≡ progress.Clash
+    → moved (move_of l r) es bs ≡ Stop Clash
 progress_clash l r progress.Done es fs bs cs h e = cc
 progress_clash l r progress.Clash es fs bs cs h e = h
 progress_clash l r progress.Occurs es fs bs cs h e = cc
 
-pub progress_occurs : (l r : Term) (p : Progress) (es fs : Equations) (bs cs : Bindings) → IsProgress (move_of l r) p es bs fs cs → p ≡ progress.Occurs → moved (move_of l r) es bs ≡ Stop Occurs
+pub progress_occurs : (l r : Term) (p : Progress) (es fs : Equations) (bs cs : Bindings) → IsProgress (move_of l r) p es bs fs cs → p ≡ progress.Occurs
+    → moved (move_of l r) es bs ≡ Stop Occurs
 progress_occurs l r progress.Done es fs bs cs h e = cc
 progress_occurs l r progress.Clash es fs bs cs h e = cc
 progress_occurs l r progress.Occurs es fs bs cs h e = h
@@ -190,27 +222,32 @@ pub record IsUnderWay (xs ys : List Term) (waiting : Equations) (bs : Bindings) 
   pub same : (o : Outcome) → Solves (reverse waiting) bs o → UnifiesTo xs ys o
   pub apart : AreApart bs (reverse waiting)
 
-pub start_under_way : (xs ys : List Term) (parts waiting : Equations) (bs : Bindings) → parts ≡ equations xs ys → reverse waiting ≡ parts → bs ≡ [] → IsUnderWay xs ys waiting bs
+pub start_under_way : (xs ys : List Term) (parts waiting : Equations) (bs : Bindings) → parts ≡ equations xs ys → reverse waiting ≡ parts → bs ≡ []
+    → IsUnderWay xs ys waiting bs
 start_under_way xs ys parts waiting bs e h n =
     let is : reverse waiting ≡ equations xs ys = h ∙ e in
     record {
       same = λ o s. subst (λ bs. Solves (equations xs ys) bs o) n (subst (λ es. Solves es bs o) is s);
-      apart = subst (λ bs. AreApart bs (reverse waiting)) (sym n) (record { distinct = IsDistinct-from_apart nat_eq [] (λ i j d h k. absurd (omega arith)); gone = λ v k. cc });
+      apart = subst (λ bs. AreApart bs (reverse waiting)) (sym n)
+          (record { distinct = IsDistinct-from_apart nat_eq [] (λ i j d h k. absurd (omega arith)); gone = λ v k. cc });
     }
 
 module _ (xs ys : List Term) (waiting rest : Equations) (pair : Term × Term) (bs : Bindings) (popped : waiting ≡ rest ++ pair ∷ []) where
   first_is : reverse waiting ≡ (pair.0, pair.1) ∷ reverse rest
   first_is = ap reverse popped ∙ reverse_more rest pair
 
-  pub next_under_way : (later : Equations) (cs : Bindings) → IsUnderWay xs ys waiting bs → moved (move_of pair.0 pair.1) (reverse rest) bs ≡ Go (reverse later) cs → IsUnderWay xs ys later cs
+  pub next_under_way : (later : Equations) (cs : Bindings) → IsUnderWay xs ys waiting bs
+      → moved (move_of pair.0 pair.1) (reverse rest) bs ≡ Go (reverse later) cs → IsUnderWay xs ys later cs
   next_under_way later cs way e =
       record {
         same = λ o s. way.same o (subst (λ es. Solves es bs o) (sym first_is) (step_on pair.0 pair.1 (reverse rest) (reverse later) bs cs o e s));
         apart = step_apart pair.0 pair.1 (reverse rest) (reverse later) bs cs e (subst (AreApart bs) first_is way.apart);
       }
 
-  pub next_fewer : (later : Equations) (cs : Bindings) → moved (move_of pair.0 pair.1) (reverse rest) bs ≡ Go (reverse later) cs → steps_left (reverse later) < steps_left (reverse waiting)
-  next_fewer later cs e = subst (λ es. steps_left (reverse later) < steps_left es) (sym first_is) (step_fewer pair.0 pair.1 (reverse rest) (reverse later) bs cs e)
+  pub next_fewer : (later : Equations) (cs : Bindings) → moved (move_of pair.0 pair.1) (reverse rest) bs ≡ Go (reverse later) cs
+      → steps_left (reverse later) < steps_left (reverse waiting)
+  next_fewer later cs e = subst (λ es. steps_left (reverse later) < steps_left es) (sym first_is)
+      (step_fewer pair.0 pair.1 (reverse rest) (reverse later) bs cs e)
 
   pub stop_under_way : (o : Outcome) → IsUnderWay xs ys waiting bs → moved (move_of pair.0 pair.1) (reverse rest) bs ≡ Stop o → UnifiesTo xs ys o
   stop_under_way o way e = way.same o (subst (λ es. Solves es bs o) (sym first_is) (step_stop pair.0 pair.1 (reverse rest) bs o e))

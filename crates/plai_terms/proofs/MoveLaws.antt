@@ -1,5 +1,34 @@
 -- What the move for an equation says of its sides.
-use Rattle.std.proofs.Common.{◌≡◌, ◌⊎◌, inl, inr, ℕ, ◌+◌, ◌<◌, ◌≤◌, Bool, true, false, ◌&&◌, ◌==◌, cond, List, [], ◌∷◌, map, sum, length, refl, sym, ap, subst, ◌∙◌, rules, arith, nat_eq}
+use Rattle.std.proofs.Common.{
+  ◌≡◌,
+  ◌⊎◌,
+  inl,
+  inr,
+  ℕ,
+  ◌+◌,
+  ◌<◌,
+  ◌≤◌,
+  Bool,
+  true,
+  false,
+  ◌&&◌,
+  ◌==◌,
+  cond,
+  List,
+  [],
+  ◌∷◌,
+  map,
+  sum,
+  length,
+  refl,
+  sym,
+  ap,
+  subst,
+  ◌∙◌,
+  rules,
+  arith,
+  nat_eq,
+}
 use Rattle.std.specs.List.{AllByRecursion}
 use Rattle.std.specs.Cmp.Lexicographic.{pointwise}
 use Rattle.std.specs.Ordering.{int_eq}
@@ -47,21 +76,25 @@ module _ (f : ℕ → Term) (v : ℕ) where
   large_all : (args : List Term) → AllByRecursion IsLarge args → occurs_in v args ≡ true → size_of (f v) ≤ sum (map size_of (map (under f) args))
   large_all [] h e = cc
   large_all (a ∷ args) h e =
-      let s : sum (map size_of (map (under f) (a ∷ args))) ≡ size_of (under f a) + sum (map size_of (map (under f) args)) = sum_by-cons (λ x. x) (size_of (under f a)) (map size_of (map (under f) args)) in
+      let s : sum (map size_of (map (under f) (a ∷ args))) ≡ size_of (under f a) + sum (map size_of (map (under f) args)) =
+      sum_by-cons (λ x. x) (size_of (under f a)) (map size_of (map (under f) args)) in
       elim (or_cases (occurs v a) (occurs_in v args) e) [
         | inl o ↦ let p = h.0 o in omega arith
         | inr o ↦ let p = large_all args h.1 o in omega arith
       ]
 
-  large_Compound : (name : List ℕ) (args : List Term) → AllByRecursion IsLarge args → occurs v (Compound name args) ≡ true → size_of (f v) < size_of (under f (Compound name args))
+  large_Compound : (name : List ℕ) (args : List Term) → AllByRecursion IsLarge args → occurs v (Compound name args) ≡ true
+      → size_of (f v) < size_of (under f (Compound name args))
   large_Compound name args h e =
-      let s : size_of (under f (Compound name args)) ≡ 1 + sum (map size_of (map (under f) args)) = ap size_of (under-Compound f name args) ∙ size_of-Compound name (map (under f) args) in
+      let s : size_of (under f (Compound name args)) ≡ 1 + sum (map size_of (map (under f) args)) =
+      ap size_of (under-Compound f name args) ∙ size_of-Compound name (map (under f) args) in
       let m : size_of (f v) ≤ sum (map size_of (map (under f) args)) = large_all args h (sym (occurs-args v name args) ∙ e) in
       omega arith
 
   large : (t : Term) → IsLarge t
   large = induction IsLarge
-      (λ u e. let s : size_of (f v) ≡ size_of (under f (Var u)) = ap (λ w. size_of (f w)) (occurs-Var_same v u e) ∙ ap size_of (sym (under-Var f u)) in omega arith)
+      (λ u e. let s : size_of (f v) ≡ size_of (under f (Var u)) = ap (λ w. size_of (f w)) (occurs-Var_same v u e) ∙ ap size_of (sym (under-Var f u)) in
+      omega arith)
       (λ n e. let no : occurs v (Int n) ≡ false = search (rules, the_lemmas) in cc)
       (λ a e. let no : occurs v (Atom a) ≡ false = search (rules, the_lemmas) in cc)
       (λ name args h e. let p : size_of (f v) < size_of (under f (Compound name args)) = large_Compound name args h e in omega arith)
@@ -110,13 +143,15 @@ chosen : {A : Type 0} (P : A → Type 0) (b : Bool) (x y : A) → (b ≡ true �
 chosen P true x y f g = f refl
 chosen P false x y f g = g refl
 
-var_left : (v : ℕ) (y : Term-F Term) → IsOther y → IsMove (roll-Term (Term-F.Var v)) (roll-Term y) (cond (occurs v (roll-Term y)) Contain (Bind v (roll-Term y)))
+var_left : (v : ℕ) (y : Term-F Term) → IsOther y
+    → IsMove (roll-Term (Term-F.Var v)) (roll-Term y) (cond (occurs v (roll-Term y)) Contain (Bind v (roll-Term y)))
 var_left v y h =
     chosen (IsMove (roll-Term (Term-F.Var v)) (roll-Term y)) (occurs v (roll-Term y)) Contain (Bind v (roll-Term y))
     (λ o f e. not_contained f v y h o (sym (ap (under f) (rolls-Var v) ∙ under-Var f v) ∙ e))
     (λ o. (o, inl (rolls-Var v, refl)))
 
-var_right : (w : ℕ) (x : Term-F Term) → IsOther x → IsMove (roll-Term x) (roll-Term (Term-F.Var w)) (cond (occurs w (roll-Term x)) Contain (Bind w (roll-Term x)))
+var_right : (w : ℕ) (x : Term-F Term) → IsOther x
+    → IsMove (roll-Term x) (roll-Term (Term-F.Var w)) (cond (occurs w (roll-Term x)) Contain (Bind w (roll-Term x)))
 var_right w x h =
     chosen (IsMove (roll-Term x) (roll-Term (Term-F.Var w))) (occurs w (roll-Term x)) Contain (Bind w (roll-Term x))
     (λ o f e. not_contained f w x h o (sym (ap (under f) (rolls-Var w) ∙ under-Var f w) ∙ sym e))
@@ -168,7 +203,8 @@ layers_are (Term-F.Atom a) (Term-F.Compound b ys) = λ f h. let s = same_layers 
 layers_are (Term-F.Compound a xs) (Term-F.Int n) = λ f h. let s = same_layers f (Term-F.Compound a xs) (Term-F.Int n) tt tt h in cc
 layers_are (Term-F.Compound a xs) (Term-F.Atom b) = λ f h. let s = same_layers f (Term-F.Compound a xs) (Term-F.Atom b) tt tt h in cc
 layers_are (Term-F.Compound a xs) (Term-F.Compound b ys) =
-    chosen (IsMove (roll-Term (Term-F.Compound a xs)) (roll-Term (Term-F.Compound b ys))) (pointwise nat_eq a b && nat_eq (length xs) (length ys)) (Split (equations xs ys)) Differ
+    chosen (IsMove (roll-Term (Term-F.Compound a xs)) (roll-Term (Term-F.Compound b ys))) (pointwise nat_eq a b && nat_eq (length xs) (length ys))
+    (Split (equations xs ys)) Differ
     (λ e.
     let t = both (pointwise nat_eq a b) (nat_eq (length xs) (length ys)) e in
     let k : a ≡ b = (names a b).0 t.0 in

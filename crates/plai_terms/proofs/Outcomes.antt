@@ -41,7 +41,8 @@ unifier xs ys s l (n, e) =
     }
 
 -- a result is idempotent
-pub idempotent : (xs ys : List Term) (s : Bindings) → length xs ≡ length ys → UnifiesTo xs ys (Unified s) → (t : Term) → under (bound_to s) (under (bound_to s) t) ≡ under (bound_to s) t
+pub idempotent : (xs ys : List Term) (s : Bindings) → length xs ≡ length ys → UnifiesTo xs ys (Unified s) → (t : Term)
+    → under (bound_to s) (under (bound_to s) t) ≡ under (bound_to s) t
 idempotent xs ys s l h t =
     let u : IsMostGeneral xs ys s = unifier xs ys s l h in
     under_under (bound_to s) (bound_to s) t

@@ -1,5 +1,33 @@
 -- The text of a term, piece by piece.
-use Rattle.std.proofs.Common.{◌≡◌, ◌<◌, ℕ, ℤ, ◌+◌, ◌*◌, List, [], ◌∷◌, ◌++◌, map, flat_map, length, reverse, refl, sym, ap, ◌∙◌, append_assoc, arith, rules, codes, decimal, Result, Ok, Err, OnOk}
+use Rattle.std.proofs.Common.{
+  ◌≡◌,
+  ◌<◌,
+  ℕ,
+  ℤ,
+  ◌+◌,
+  ◌*◌,
+  List,
+  [],
+  ◌∷◌,
+  ◌++◌,
+  map,
+  flat_map,
+  length,
+  reverse,
+  refl,
+  sym,
+  ap,
+  ◌∙◌,
+  append_assoc,
+  arith,
+  rules,
+  codes,
+  decimal,
+  Result,
+  Ok,
+  Err,
+  OnOk,
+}
 use Rattle.std.specs.Fmt.{signed_decimal}
 use Rattle.std.specs.List.{join_with_byte}
 use Rattle.std.proofs.lemmas.List.{append-nil, map-append, reverse-append}
@@ -69,7 +97,8 @@ listed_text t [] = refl
 listed_text t (u ∷ us) =
     ap (λ z. text_of t ++ 44 ∷ z) (listed_text u us) ∙ sym (append_assoc (text_of t) (44 ∷ join_with_byte 44 (map text_of (u ∷ us))) (41 ∷ []))
 
-text-Compound : (name : List ℕ) (args : List Term) → text_of (Compound name args) ≡ atom_text name ++ codes "(" ++ join_with_byte 44 (map text_of args) ++ codes ")"
+text-Compound : (name : List ℕ) (args : List Term)
+    → text_of (Compound name args) ≡ atom_text name ++ codes "(" ++ join_with_byte 44 (map text_of args) ++ codes ")"
 text-Compound name args = search (rules, the_lemmas)
 
 unfolded : (t : Term) → text_of t ≡ head_text t ++ parts_text (behind_head t)
@@ -82,7 +111,8 @@ unfolded = induction (λ t. text_of t ≡ head_text t ++ parts_text (behind_head
     leaf : (t : Term) (bs : List ℕ) → text_of t ≡ bs → head_text t ≡ bs → behind_head t ≡ [] → text_of t ≡ head_text t ++ parts_text (behind_head t)
     leaf t bs e h b = e ∙ sym (append-nil bs) ∙ ap (λ z. z ++ []) (sym h) ∙ ap (λ z. head_text t ++ parts_text z) (sym b)
 
-    compound : (name : List ℕ) (args : List Term) → text_of (Compound name args) ≡ head_text (Compound name args) ++ parts_text (behind_head (Compound name args))
+    compound : (name : List ℕ) (args : List Term)
+        → text_of (Compound name args) ≡ head_text (Compound name args) ++ parts_text (behind_head (Compound name args))
     compound name [] =
         text-Compound name [] ∙ ap (λ z. z ++ codes ")") (append-nil (atom_text name ++ codes "("))
         ∙ ap (λ z. z ++ codes ")") (sym (head_text-Compound name [])) ∙ ap (λ z. head_text (Compound name []) ++ parts_text z) (sym (behind-none name))
@@ -115,7 +145,8 @@ pub puts_last : (behind : ℕ) (left before : List Term) (last : Term) (waiting 
 puts_last behind left before last waiting next after p q whole l b t n a e =
     ap (λ z. listed 44 before ++ z)
     (ap (λ z. reverse (parts_of z)) a ∙ reverse-push next q ∙ ap (λ z. z ∷ reverse (parts_of next)) t
-    ∙ ap (λ z. Whole last ∷ reverse (parts_of z)) n ∙ ap (λ z. Whole last ∷ z) (reverse-push waiting p) ∙ ap (λ z. Whole last ∷ z ∷ reverse (parts_of waiting)) b)
+    ∙ ap (λ z. Whole last ∷ reverse (parts_of z)) n ∙ ap (λ z. Whole last ∷ z) (reverse-push waiting p)
+    ∙ ap (λ z. Whole last ∷ z ∷ reverse (parts_of waiting)) b)
     ∙ sym (append_assoc (listed 44 before) (Whole last ∷ Byte behind ∷ []) (reverse (parts_of waiting)))
     ∙ ap (λ z. z ++ reverse (parts_of waiting)) (sym (listed-push behind before last))
     ∙ ap (λ z. listed behind z ++ reverse (parts_of waiting)) (sym l)
@@ -180,7 +211,8 @@ part_weight (Whole t) = behind_weight t
 unfoldable pub pieces_left : List Piece → ℕ
 pieces_left ps = weights (reverse (parts_of ps))
 
-pub fewer_left : (waiting rest after : List Piece) (p : Piece) → waiting ≡ rest ++ p ∷ [] → reverse (parts_of after) ≡ parts_behind (part_of p) ++ reverse (parts_of rest)
+pub fewer_left : (waiting rest after : List Piece) (p : Piece) → waiting ≡ rest ++ p ∷ []
+    → reverse (parts_of after) ≡ parts_behind (part_of p) ++ reverse (parts_of rest)
     → pieces_left after < pieces_left waiting
 unfolding pieces_left
 fewer_left waiting rest after p w a =
@@ -214,7 +246,8 @@ compound_head t name a args out middle next e n m k =
     k ∙ ap (λ z. z ++ 40 ∷ []) (m ∙ ap (λ b. out ++ atom_text b) n) ∙ append_assoc out (atom_text name) (40 ∷ [])
     ∙ ap (λ z. out ++ z) (sym (ap head_text e ∙ head_text-Compound name args))
 
-pub writing_starts : (out : List ℕ) (waiting : List Piece) (p : Piece) → waiting ≡ p ∷ [] → out ++ parts_text (reverse (parts_of waiting)) ≡ out ++ part_text (part_of p)
+pub writing_starts : (out : List ℕ) (waiting : List Piece) (p : Piece) → waiting ≡ p ∷ []
+    → out ++ parts_text (reverse (parts_of waiting)) ≡ out ++ part_text (part_of p)
 writing_starts out waiting p e = ap (λ z. out ++ parts_text (reverse (parts_of z))) e ∙ ap (λ z. out ++ z) (append-nil (part_text (part_of p)))
 
 pub writing_ends : (out whole : List ℕ) (waiting : List Piece) → waiting ≡ [] → out ++ parts_text (reverse (parts_of waiting)) ≡ whole → out ≡ whole

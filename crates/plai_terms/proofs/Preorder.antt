@@ -1,5 +1,28 @@
 -- The subterms in preorder, and what is computed from the last of them to the first.
-use Rattle.std.proofs.Common.{◌≡◌, ◌≢◌, ◌<◌, ℕ, ℤ, List, [], ◌∷◌, ◌++◌, map, flat_map, length, reverse, refl, sym, ap, ◌∙◌, append_assoc, arith, rules, subst, Bor}
+use Rattle.std.proofs.Common.{
+  ◌≡◌,
+  ◌≢◌,
+  ◌<◌,
+  ℕ,
+  ℤ,
+  List,
+  [],
+  ◌∷◌,
+  ◌++◌,
+  map,
+  flat_map,
+  length,
+  reverse,
+  refl,
+  sym,
+  ap,
+  ◌∙◌,
+  append_assoc,
+  arith,
+  rules,
+  subst,
+  Bor,
+}
 use Rattle.std.specs.List.{AllByRecursion}
 use Rattle.std.proofs.lemmas.List.{append-nil, map-append, reverse-append, reverse-reverse}
 use Rattle.std.proofs.lemmas.Grind.{flat_map-append}
@@ -30,7 +53,10 @@ arguments_of-Compound name args = search (rules, the_lemmas)
 -- ---- the equation of preorder
 
 with-Compound : (name : List ℕ) (args : List Term)
-    → with_preorder (Compound name args) ≡ (Compound name (map (λ p. p.0) (map with_preorder args)), Compound name (map (λ p. p.0) (map with_preorder args)) ∷ flat_map (λ p. p.1) (map with_preorder args))
+    → with_preorder (Compound name args) ≡ (
+      Compound name (map (λ p. p.0) (map with_preorder args)),
+      Compound name (map (λ p. p.0) (map with_preorder args)) ∷ flat_map (λ p. p.1) (map with_preorder args),
+    )
 with-Compound name args = search (rules, the_lemmas)
 
 abbrev IsFirst : Term → Type 0
@@ -117,7 +143,8 @@ referred-push ts t = map-append (λ x. x.now) ts (t ∷ [])
 before : (waiting rest : List (Bor Term)) (t : Bor Term) → waiting ≡ rest ++ t ∷ [] → reverse (referred waiting) ≡ t.now ∷ reverse (referred rest)
 before waiting rest t e = ap (λ w. reverse (referred w)) e ∙ ap reverse (referred-push rest t) ∙ reverse-append (referred rest) (t.now ∷ [])
 
-behind : (rest after : List (Bor Term)) (args : List Term) (t : Term) → args ≡ arguments_of t → referred after ≡ referred rest ++ reverse args → reverse (referred after) ≡ arguments_of t ++ reverse (referred rest)
+behind : (rest after : List (Bor Term)) (args : List Term) (t : Term) → args ≡ arguments_of t → referred after ≡ referred rest ++ reverse args
+    → reverse (referred after) ≡ arguments_of t ++ reverse (referred rest)
 behind rest after args t is e =
     ap reverse e ∙ reverse-append (referred rest) (reverse args) ∙ ap (λ z. z ++ reverse (referred rest)) (reverse-reverse args ∙ is)
 

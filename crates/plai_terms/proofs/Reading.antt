@@ -1,5 +1,42 @@
 -- Texts that are read in one way: a front without delimiters, the digits of a number, and the bytes between quotes.
-use Rattle.std.proofs.Common.{◌≡◌, ℕ, ℤ, pos, negsuc, suc, ◌+◌, ◌*◌, ◌-◌, ◌/◌, ◌%◌, ◌^◌, ◌<◌, Bool, true, false, ◌&&◌, ◌||◌, not, cond, eqb, ltb, List, [], ◌∷◌, ◌++◌, length, get_or, drop, refl, sym, ap, ◌∙◌, arith, append_assoc, codes}
+use Rattle.std.proofs.Common.{
+  ◌≡◌,
+  ℕ,
+  ℤ,
+  pos,
+  negsuc,
+  suc,
+  ◌+◌,
+  ◌*◌,
+  ◌-◌,
+  ◌/◌,
+  ◌%◌,
+  ◌^◌,
+  ◌<◌,
+  Bool,
+  true,
+  false,
+  ◌&&◌,
+  ◌||◌,
+  not,
+  cond,
+  eqb,
+  ltb,
+  List,
+  [],
+  ◌∷◌,
+  ◌++◌,
+  length,
+  get_or,
+  drop,
+  refl,
+  sym,
+  ap,
+  ◌∙◌,
+  arith,
+  append_assoc,
+  codes,
+}
 use Rattle.std.specs.Fmt.{decimal, signed_decimal}
 use Rattle.std.specs.List.{list_any, list_all, flat_map}
 use Rattle.std.specs.Str.Parse.{digits_value}
@@ -22,7 +59,8 @@ not_both true e h = false≢true h
 not_both false e h = false≢true e
 
 -- two fronts without delimiters, up to delimiters
-pub same_fronts : (d : ℕ → Bool) (xs ys us vs : List ℕ) → is_free d xs ≡ true → is_free d ys ≡ true → stops d us ≡ true → stops d vs ≡ true → xs ++ us ≡ ys ++ vs
+pub same_fronts : (d : ℕ → Bool) (xs ys us vs : List ℕ) → is_free d xs ≡ true → is_free d ys ≡ true → stops d us ≡ true → stops d vs ≡ true
+    → xs ++ us ≡ ys ++ vs
     → (xs ≡ ys) × (us ≡ vs)
 same_fronts d [] [] us vs h k s t e = (refl, e)
 same_fronts d [] (y ∷ ys) us vs h k s t e =
@@ -104,7 +142,8 @@ first_digit_of (c ∷ cs) us l h = goes_digit (is_digit c) (both (not (no_digit 
 pub first_digit : (n : ℕ) (us : List ℕ) → n < 10 ^ 64 → is_digit (first_of (decimal n ++ us)) ≡ true
 first_digit n us l = first_digit_of (decimal n) us (decimal_is_IsNumeral_wide n l).0.0 (digits_alone n l)
 
-pub decimals_apart : (m n : ℕ) (us vs : List ℕ) → m < 10 ^ 64 → n < 10 ^ 64 → stops no_digit us ≡ true → stops no_digit vs ≡ true → decimal m ++ us ≡ decimal n ++ vs
+pub decimals_apart : (m n : ℕ) (us vs : List ℕ) → m < 10 ^ 64 → n < 10 ^ 64 → stops no_digit us ≡ true → stops no_digit vs ≡ true
+    → decimal m ++ us ≡ decimal n ++ vs
     → (m ≡ n) × (us ≡ vs)
 decimals_apart m n us vs l k s t e =
     let (p, q) = same_fronts no_digit (decimal m) (decimal n) us vs (digits_alone m l) (digits_alone n k) s t e in
@@ -121,7 +160,8 @@ no_minus n us vs l e =
     let f : is_digit (first_of (decimal n ++ us)) ≡ is_digit 45 = ap (λ x. is_digit (first_of x)) e in
     false≢true (sym f ∙ d)
 
-pub integers_apart : (y z : ℤ) (us vs : List ℕ) → is_short y → is_short z → stops no_digit us ≡ true → stops no_digit vs ≡ true → signed_decimal y ++ us ≡ signed_decimal z ++ vs
+pub integers_apart : (y z : ℤ) (us vs : List ℕ) → is_short y → is_short z → stops no_digit us ≡ true → stops no_digit vs ≡ true
+    → signed_decimal y ++ us ≡ signed_decimal z ++ vs
     → (y ≡ z) × (us ≡ vs)
 integers_apart (pos m) (pos n) us vs l k s t e = let (p, q) = decimals_apart m n us vs l k s t e in (ap pos p, q)
 integers_apart (pos m) (negsuc n) us vs l k s t e = absurd (no_minus m us (decimal (suc n) ++ vs) l e)
@@ -162,7 +202,8 @@ unescaped-hex x r l =
 small_or : (x : ℕ) → (ltb x 32 || eqb x 127) ≡ true → x < 256
 small_or x e = grind (arith, nat_tests)
 
-last_choice : (x : ℕ) (r : List ℕ) (b : Bool) → (ltb x 32 || eqb x 127) ≡ b → eqb x 39 ≡ false → eqb x 92 ≡ false → unescaped (cond b (hex_text x) (x ∷ []) ++ r) ≡ (x, r)
+last_choice : (x : ℕ) (r : List ℕ) (b : Bool) → (ltb x 32 || eqb x 127) ≡ b → eqb x 39 ≡ false → eqb x 92 ≡ false
+    → unescaped (cond b (hex_text x) (x ∷ []) ++ r) ≡ (x, r)
 last_choice x r true e p q = unescaped-hex x r (small_or x e)
 last_choice x r false e p q =
     ap (λ b. cond b (39, drop 1 r) (cond (eqb x 92) (after_backslash r) (x, r))) p ∙ ap (λ b. cond b (after_backslash r) (x, r)) q
@@ -178,7 +219,8 @@ second_choice x r true e p = let n : 92 ≡ x = sym (eqb-true x 92 e) in λ i. (
 second_choice x r false e p = third_choice x r (eqb x 10) refl p e
 
 first_choice : (x : ℕ) (r : List ℕ) (b : Bool) → eqb x 39 ≡ b
-    → unescaped (cond b (codes "''") (cond (eqb x 92) (codes "\\\\") (cond (eqb x 10) (codes "\\n") (cond (ltb x 32 || eqb x 127) (hex_text x) (x ∷ [])))) ++ r) ≡ (x, r)
+    → unescaped (cond b (codes "''") (cond (eqb x 92)
+    (codes "\\\\") (cond (eqb x 10) (codes "\\n") (cond (ltb x 32 || eqb x 127) (hex_text x) (x ∷ [])))) ++ r) ≡ (x, r)
 first_choice x r true e = let n : 39 ≡ x = sym (eqb-true x 39 e) in λ i. (n i, r)
 first_choice x r false e = second_choice x r (eqb x 92) refl e
 
@@ -197,12 +239,15 @@ quote_alone y us r e =
 pub quoted_apart : (xs ys us vs : List ℕ) → (first_of us ≡ 39 → ⊥) → (first_of vs ≡ 39 → ⊥) → flat_map escaped xs ++ 39 ∷ us ≡ flat_map escaped ys ++ 39 ∷ vs
     → (xs ≡ ys) × (us ≡ vs)
 quoted_apart [] [] us vs s t e = (refl, cc)
-quoted_apart [] (y ∷ ys) us vs s t e = absurd (s (quote_alone y us (flat_map escaped ys ++ 39 ∷ vs) (e ∙ append_assoc (escaped y) (flat_map escaped ys) (39 ∷ vs))))
-quoted_apart (x ∷ xs) [] us vs s t e = absurd (t (quote_alone x vs (flat_map escaped xs ++ 39 ∷ us) (sym e ∙ append_assoc (escaped x) (flat_map escaped xs) (39 ∷ us))))
+quoted_apart [] (y ∷ ys) us vs s t e = absurd
+    (s (quote_alone y us (flat_map escaped ys ++ 39 ∷ vs) (e ∙ append_assoc (escaped y) (flat_map escaped ys) (39 ∷ vs))))
+quoted_apart (x ∷ xs) [] us vs s t e = absurd
+    (t (quote_alone x vs (flat_map escaped xs ++ 39 ∷ us) (sym e ∙ append_assoc (escaped x) (flat_map escaped xs) (39 ∷ us))))
 quoted_apart (x ∷ xs) (y ∷ ys) us vs s t e =
     let r : List ℕ = flat_map escaped xs ++ 39 ∷ us in
     let r' : List ℕ = flat_map escaped ys ++ 39 ∷ vs in
-    let f : escaped x ++ r ≡ escaped y ++ r' = sym (append_assoc (escaped x) (flat_map escaped xs) (39 ∷ us)) ∙ e ∙ append_assoc (escaped y) (flat_map escaped ys) (39 ∷ vs) in
+    let f : escaped x ++ r ≡ escaped y ++ r' =
+    sym (append_assoc (escaped x) (flat_map escaped xs) (39 ∷ us)) ∙ e ∙ append_assoc (escaped y) (flat_map escaped ys) (39 ∷ vs) in
     let q : (x, r) ≡ (y, r') = sym (unescaped-escaped x r) ∙ ap unescaped f ∙ unescaped-escaped y r' in
     let n : x ≡ y = ap (λ p. p.0) q in
     let (p, u) = quoted_apart xs ys us vs s t (ap (λ p. p.1) q) in

@@ -1,5 +1,34 @@
 -- A term made anew from what its arguments gave, and what waits behind them.
-use Rattle.std.proofs.Common.{◌≡◌, ◌≢◌, ◌≤◌, ◌<◌, ℕ, ℤ, List, [], ◌∷◌, ◌++◌, length, map, take, drop, reverse, refl, sym, ap, ◌∙◌, arith, rules, length-append, subst, Bor, Result, Ok, Err, IfOk}
+use Rattle.std.proofs.Common.{
+  ◌≡◌,
+  ◌≢◌,
+  ◌≤◌,
+  ◌<◌,
+  ℕ,
+  ℤ,
+  List,
+  [],
+  ◌∷◌,
+  ◌++◌,
+  length,
+  map,
+  take,
+  drop,
+  reverse,
+  refl,
+  sym,
+  ap,
+  ◌∙◌,
+  arith,
+  rules,
+  length-append,
+  subst,
+  Bor,
+  Result,
+  Ok,
+  Err,
+  IfOk,
+}
 use Rattle.std.proofs.lemmas.List.{length-reverse, length-map, reverse-append, reverse-reverse}
 use Rattle.plai_terms.specs.Preorder.{arguments_of, with_arguments, preorder, referred}
 use Rattle.plai_terms.specs.declared.term.Term.{Term, Var, Int, Atom, Compound, the_lemmas}
@@ -145,7 +174,8 @@ module _ (f : Term → Term) (whole : Term) where
   pub one_is_left : (nodes : List (Bor Term)) (done : List Term) → nodes ≡ [] → IsBack f whole (referred nodes) (reverse done) → 0 < length done
   one_is_left nodes done e b = let l = ap length (one_left nodes done e b) in omega (arith, l)
 
-  pub last_is : (nodes : List (Bor Term)) (done after : List Term) (t : Term) → nodes ≡ [] → IsBack f whole (referred nodes) (reverse done) → done ≡ after ++ t ∷ [] → t ≡ f whole
+  pub last_is : (nodes : List (Bor Term)) (done after : List Term) (t : Term) → nodes ≡ [] → IsBack f whole (referred nodes) (reverse done)
+      → done ≡ after ++ t ∷ [] → t ≡ f whole
   last_is nodes done after t e b k = last_one after t (f whole) (sym k ∙ one_left nodes done e b)
 
 module _ (node : Term) (whole : Term) (left : List Term) (done : List Term) (b : IsNext (λ t. t) whole left node (reverse done)) where

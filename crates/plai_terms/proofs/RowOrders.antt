@@ -14,7 +14,8 @@ use Rattle.plai_terms.proofs.GroupOrder.{texts_tie}
 use Rattle.plai_terms.proofs.Sorted.{by_ordering}
 
 pub pred_total : IsTotalOrder pred_order
-pred_total = then_total (on_total (λ (p : PredKey). p.module) nat_list_cmp_total) (then_total (on_total (λ (p : PredKey). p.name) nat_list_cmp_total) (on_total (λ (p : PredKey). p.arity) nat_cmp_total))
+pred_total = then_total (on_total (λ (p : PredKey). p.module) nat_list_cmp_total)
+    (then_total (on_total (λ (p : PredKey). p.name) nat_list_cmp_total) (on_total (λ (p : PredKey). p.arity) nat_cmp_total))
 
 pub name_total : IsTotalOrder name_order
 name_total = then_total (on_total (λ (x : RowName). x.pred) pred_total) (on_total (λ (x : RowName). pattern_text x.call) nat_list_cmp_total)
@@ -30,7 +31,8 @@ both_tied Greater b e = cc
 numbers_tie : (x y : ℕ) → nat_cmp x y ≡ Equal → x ≡ y
 numbers_tie x y e = ranked x y Equal (sym e)
 
-same_key : (m m' n n' : List ℕ) (a a' : ℕ) → m ≡ m' → n ≡ n' → a ≡ a' → (let k : PredKey = record { «module» = m; name = n; arity = a } in k) ≡ record { «module» = m'; name = n'; arity = a' }
+same_key : (m m' n n' : List ℕ) (a a' : ℕ) → m ≡ m' → n ≡ n' → a ≡ a'
+    → (let k : PredKey = record { «module» = m; name = n; arity = a } in k) ≡ record { «module» = m'; name = n'; arity = a' }
 same_key m m' n n' a a' p q r = cc
 
 preds_tie : (a b : PredKey) → pred_order a b ≡ Equal → a ≡ b

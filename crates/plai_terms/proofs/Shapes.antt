@@ -1,5 +1,37 @@
 -- Different sets of assignments to as many slots have different texts.
-use Rattle.std.proofs.Common.{◌≡◌, ℕ, zero, suc, ◌+◌, ◌*◌, ◌/◌, ◌%◌, ◌^◌, ◌≤◌, ◌<◌, Bool, true, false, ◌||◌, not, cond, List, [], ◌∷◌, ◌++◌, inl, inr, refl, sym, ap, ◌∙◌, arith, subst, append_assoc, codes}
+use Rattle.std.proofs.Common.{
+  ◌≡◌,
+  ℕ,
+  zero,
+  suc,
+  ◌+◌,
+  ◌*◌,
+  ◌/◌,
+  ◌%◌,
+  ◌^◌,
+  ◌≤◌,
+  ◌<◌,
+  Bool,
+  true,
+  false,
+  ◌||◌,
+  not,
+  cond,
+  List,
+  [],
+  ◌∷◌,
+  ◌++◌,
+  inl,
+  inr,
+  refl,
+  sym,
+  ap,
+  ◌∙◌,
+  arith,
+  subst,
+  append_assoc,
+  codes,
+}
 use Rattle.std.specs.Fmt.{decimal}
 use Rattle.std.proofs.Math.Nat.{pow-suc}
 use Rattle.std.proofs.lemmas.Bool.{false≢true, or_parts, or_cases, cases_eq}
@@ -117,7 +149,8 @@ StartsAt-cond i false x y h k = k
 starts_at : (k i : ℕ) (f : ℕ → Bool) → StartsAt i (shape k i f)
 unfolding shape
 starts_at zero i f = StartsAt-cond i (f 0) All None tt tt
-starts_at (suc k) i f = StartsAt-cond i (depends (2 ^ k) f) (Node i (shape k (suc i) (λ m. f (2 * m + 1))) (shape k (suc i) (λ m. f (2 * m)))) (shape k (suc i) (λ m. f (2 * m))) (omega arith) (StartsAt-less i _ (starts_at k (suc i) (λ m. f (2 * m))))
+starts_at (suc k) i f = StartsAt-cond i (depends (2 ^ k) f) (Node i (shape k (suc i) (λ m. f (2 * m + 1))) (shape k (suc i) (λ m. f (2 * m))))
+    (shape k (suc i) (λ m. f (2 * m))) (omega arith) (StartsAt-less i _ (starts_at k (suc i) (λ m. f (2 * m))))
 
 no_node : (i : ℕ) (a b x : Shape) → StartsAt (suc i) x → Node i a b ≡ x → ⊥
 no_node i a b x h e = omega (arith, subst (λ y. StartsAt (suc i) y) (sym e) h)
@@ -129,7 +162,8 @@ leaf false true e = cc
 leaf false false e = refl
 
 -- the halves of a function
-by_halves : (k : ℕ) (f g : ℕ → Bool) → ((m : ℕ) → m < k → f (2 * m) ≡ g (2 * m)) → ((m : ℕ) → m < k → f (2 * m + 1) ≡ g (2 * m + 1)) → (m : ℕ) → m < k * 2 → f m ≡ g m
+by_halves : (k : ℕ) (f g : ℕ → Bool) → ((m : ℕ) → m < k → f (2 * m) ≡ g (2 * m)) → ((m : ℕ) → m < k → f (2 * m + 1) ≡ g (2 * m + 1)) → (m : ℕ)
+    → m < k * 2 → f m ≡ g m
 by_halves k f g h u m l =
     let half : m / 2 < k = omega arith in
     elim (cases_eq (m % 2) 0) [

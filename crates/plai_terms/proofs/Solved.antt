@@ -8,7 +8,19 @@ use Rattle.plai_terms.specs.declared.term.Term.TheOpen.{Term-F}
 use Rattle.plai_terms.specs.Substitution.{under, then_also}
 use Rattle.plai_terms.specs.Unification.{Equations, equations, put}
 use Rattle.plai_terms.proofs.Solutions.{Unifies, occurs_there}
-use Rattle.plai_terms.proofs.Under.{under-Var, under-Compound, occurs-Var_same, or_cases, or_first, or_second, decided, under_same, under_under, under_Var, source}
+use Rattle.plai_terms.proofs.Under.{
+  under-Var,
+  under-Compound,
+  occurs-Var_same,
+  or_cases,
+  or_first,
+  or_second,
+  decided,
+  under_same,
+  under_under,
+  under_Var,
+  source,
+}
 use Rattle.plai_terms.proofs.MoveLaws.{IsSplit}
 
 -- one binding
@@ -57,7 +69,8 @@ left_in v t w x o =
           inr (ap (λ y. occurs y x) same ∙ i, ap (eqb v) same ∙ k.0)
     ]
 
-pub put_left : (v : ℕ) (t : Term) (w : ℕ) (es : Equations) → occurs_there w (put v t es) ≡ true → (occurs w t ≡ true) ⊎ ((occurs_there w es ≡ true) × (eqb v w ≡ false))
+pub put_left : (v : ℕ) (t : Term) (w : ℕ) (es : Equations) → occurs_there w (put v t es) ≡ true
+    → (occurs w t ≡ true) ⊎ ((occurs_there w es ≡ true) × (eqb v w ≡ false))
 put_left v t w [] o = cc
 put_left v t w (e ∷ es) o =
     elim (or_cases (occurs w (under (single v t) e.0) || occurs w (under (single v t) e.1)) (occurs_there w (put v t es)) o) [
@@ -123,5 +136,6 @@ split_unified f l r ds s u =
 
 pub unified_split : (f : ℕ → Term) (l r : Term) (ds : Equations) → IsSplit l r ds → under f l ≡ under f r → Unifies f ds
 unified_split f l r ds s e =
-    let k : Compound s.name (map (under f) s.xs) ≡ Compound s.name (map (under f) s.ys) = sym (under-Compound f s.name s.xs) ∙ ap (under f) (sym s.left) ∙ e ∙ ap (under f) s.right ∙ under-Compound f s.name s.ys in
+    let k : Compound s.name (map (under f) s.xs) ≡ Compound s.name (map (under f) s.ys) =
+    sym (under-Compound f s.name s.xs) ∙ ap (under f) (sym s.left) ∙ e ∙ ap (under f) s.right ∙ under-Compound f s.name s.ys in
     subst (Unifies f) (sym s.they) (lists_unified f s.xs s.ys (Compound_args s.name (map (under f) s.xs) (map (under f) s.ys) k))

@@ -1,5 +1,27 @@
 -- Lists in an order: what a sort gives, and that there is one such list.
-use Rattle.std.proofs.Common.{◌≡◌, ℕ, suc, ◌<◌, ◌≤◌, false, cond, List, [], ◌∷◌, map, length, get_or, refl, sym, ap, ◌∙◌, arith, sum_by, IsPermutation, IsSorted}
+use Rattle.std.proofs.Common.{
+  ◌≡◌,
+  ℕ,
+  suc,
+  ◌<◌,
+  ◌≤◌,
+  false,
+  cond,
+  List,
+  [],
+  ◌∷◌,
+  map,
+  length,
+  get_or,
+  refl,
+  sym,
+  ap,
+  ◌∙◌,
+  arith,
+  sum_by,
+  IsPermutation,
+  IsSorted,
+}
 use Rattle.std.specs.Cmp.{IsTotalOrder}
 use Rattle.std.specs.List.{AllByRecursion}
 use Rattle.std.specs.declared.cmp.Ordering.{Ordering}
@@ -70,7 +92,8 @@ module _ {X : Type 0} (R : X → X → Ordering) where
     itself x = ap (λ (r : Ordering). cond (is_eq r) 1 0) (tied_itself o x)
 
     -- an item above all of a list that counts it as often
-    impossible : {P : Type 0} (x y : X) (xs ys : List X) → R x y ≡ Less → AllByRecursion (λ z. is_gt (R y z) ≡ false) ys → sum_by (once x) (x ∷ xs) ≡ sum_by (once x) (y ∷ ys) → P
+    impossible : {P : Type 0} (x y : X) (xs ys : List X) → R x y ≡ Less → AllByRecursion (λ z. is_gt (R y z) ≡ false) ys
+        → sum_by (once x) (x ∷ xs) ≡ sum_by (once x) (y ∷ ys) → P
     impossible x y xs ys h a e = absurd (omega (arith, e, sum_by-cons (once x) x xs, itself x, none_there x (y ∷ ys) (h, all_far x y ys h a)))
 
     module _ (tie : (x y : X) → R x y ≡ Equal → x ≡ y) where
@@ -83,7 +106,8 @@ module _ {X : Type 0} (R : X → X → Ordering) where
           (λ l. impossible x y xs ys l v.0 (e x))
           (λ q.
           let p : x ≡ y = tie x y q in
-          let rest = same_up xs ys u.1 v.1 (λ z. let k : once z x ≡ once z y = ap (once z) p in omega (arith, e z, sum_by-cons (once z) x xs, sum_by-cons (once z) y ys, k)) in
+          let rest = same_up xs ys u.1 v.1 (λ z. let k : once z x ≡ once z y = ap (once z) p in
+          omega (arith, e z, sum_by-cons (once z) x xs, sum_by-cons (once z) y ys, k)) in
           cc)
           (λ g. impossible y x ys xs (o.antisymm y x ∙ ap ordering_reverse g) u.0 (sym (e y)))
 

@@ -39,7 +39,8 @@ module _ (s : List (ℕ × Term)) where
       (λ a e. search (rules, the_lemmas))
       (λ name args h e. apply_of-Compound s name args ∙ ap (Compound name) (all_kept args h (sym (is_ground-Compound name args) ∙ e)))
 
-chosen : (b : Bool) (second : List (ℕ × Term)) (t rest rest' : Term) → rest ≡ apply_of second rest' → cond b (apply_of second t) rest ≡ apply_of second (cond b t rest')
+chosen : (b : Bool) (second : List (ℕ × Term)) (t rest rest' : Term) → rest ≡ apply_of second rest'
+    → cond b (apply_of second t) rest ≡ apply_of second (cond b t rest')
 chosen true second t rest rest' e = refl
 chosen false second t rest rest' e = e
 
@@ -51,7 +52,8 @@ module _ (first second : List (ℕ × Term)) where
   abbrev Composes : Term → Type 0
   Composes t = apply_of (composed first second) t ≡ apply_of second (apply_of first t)
 
-  all_compose : (args : List Term) → AllByRecursion Composes args → map (apply_of (composed first second)) args ≡ map (apply_of second) (map (apply_of first) args)
+  all_compose : (args : List Term) → AllByRecursion Composes args
+      → map (apply_of (composed first second)) args ≡ map (apply_of second) (map (apply_of first) args)
   all_compose [] h = refl
   all_compose (a ∷ args) h = let p = h.0 in let q = all_compose args h.1 in cc
 

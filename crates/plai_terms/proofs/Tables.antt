@@ -1,5 +1,43 @@
 -- Shapes of functions that agree, and of the parts of a table of truths.
-use Rattle.std.proofs.Common.{◌≡◌, ℕ, zero, suc, ◌+◌, ◌-◌, ◌*◌, ◌^◌, ◌<◌, ◌≤◌, Bool, true, false, ◌||◌, not, cond, nat_eq, List, [], ◌∷◌, ◌++◌, length, take, set, get_or, inl, inr, refl, sym, ap, ◌∙◌, arith, subst, append_assoc, decimal, slice_index_or, le_refl}
+use Rattle.std.proofs.Common.{
+  ◌≡◌,
+  ℕ,
+  zero,
+  suc,
+  ◌+◌,
+  ◌-◌,
+  ◌*◌,
+  ◌^◌,
+  ◌<◌,
+  ◌≤◌,
+  Bool,
+  true,
+  false,
+  ◌||◌,
+  not,
+  cond,
+  nat_eq,
+  List,
+  [],
+  ◌∷◌,
+  ◌++◌,
+  length,
+  take,
+  set,
+  get_or,
+  inl,
+  inr,
+  refl,
+  sym,
+  ap,
+  ◌∙◌,
+  arith,
+  subst,
+  append_assoc,
+  decimal,
+  slice_index_or,
+  le_refl,
+}
 use Rattle.std.specs.Bool.{beq}
 use Rattle.std.proofs.Math.Nat.{pow-suc}
 use Rattle.std.proofs.lemmas.Bool.{or_left, or_right, cases_eq, eq-eqb, ne_eqb}
@@ -11,7 +49,8 @@ use Rattle.plai_base.specs.Sets.{has}
 use Rattle.plai_terms.specs.Shape.{Shape, All, None, Node, depends, shape, shape_text, entry}
 use Rattle.plai_terms.proofs.Shapes.{double_lt}
 
-depends_same : (b : ℕ) (f g : ℕ → Bool) → ((m : ℕ) → m < b → f (2 * m) ≡ g (2 * m)) → ((m : ℕ) → m < b → f (2 * m + 1) ≡ g (2 * m + 1)) → depends b f ≡ depends b g
+depends_same : (b : ℕ) (f g : ℕ → Bool) → ((m : ℕ) → m < b → f (2 * m) ≡ g (2 * m)) → ((m : ℕ) → m < b → f (2 * m + 1) ≡ g (2 * m + 1))
+    → depends b f ≡ depends b g
 unfolding depends
 depends_same zero f g h k = refl
 depends_same (suc b) f g h k =
@@ -25,7 +64,8 @@ unfolding shape
 shape_same zero i f g h = ap (λ b. cond b All None) (h 0 (omega arith))
 shape_same (suc k) i f g h =
     let even : (m : ℕ) → m < 2 ^ k → f (2 * m) ≡ g (2 * m) = λ m l. h (2 * m) (subst (λ z. 2 * m < z) (sym (pow-suc 2 k)) (double_lt m (2 ^ k) l).0) in
-    let odd : (m : ℕ) → m < 2 ^ k → f (2 * m + 1) ≡ g (2 * m + 1) = λ m l. h (2 * m + 1) (subst (λ z. 2 * m + 1 < z) (sym (pow-suc 2 k)) (double_lt m (2 ^ k) l).1) in
+    let odd : (m : ℕ) → m < 2 ^ k → f (2 * m + 1) ≡ g (2 * m + 1) =
+    λ m l. h (2 * m + 1) (subst (λ z. 2 * m + 1 < z) (sym (pow-suc 2 k)) (double_lt m (2 ^ k) l).1) in
     let p = depends_same (2 ^ k) f g even odd in
     let q = shape_same k (suc i) (λ m. f (2 * m + 1)) (λ m. g (2 * m + 1)) odd in
     let r = shape_same k (suc i) (λ m. f (2 * m)) (λ m. g (2 * m)) even in
@@ -63,13 +103,15 @@ module _ (flags : List Bool) (first step c i : ℕ) (some : 0 < c) where
   abbrev here : ℕ → Bool
   here = entry flags first step
 
-  named : shape c i here ≡ cond (depends (2 ^ (c - 1)) here) (Node i (shape (c - 1) (i + 1) (λ m. here (2 * m + 1))) (shape (c - 1) (i + 1) (λ m. here (2 * m)))) (shape (c - 1) (i + 1) (λ m. here (2 * m)))
+  named : shape c i here ≡ cond (depends (2 ^ (c - 1)) here)
+      (Node i (shape (c - 1) (i + 1) (λ m. here (2 * m + 1))) (shape (c - 1) (i + 1) (λ m. here (2 * m)))) (shape (c - 1) (i + 1) (λ m. here (2 * m)))
   unfolding shape
   named =
       let e : c ≡ suc (c - 1) = omega arith in
       let s : i + 1 ≡ suc i = omega arith in
       ap (λ k. shape k i here) e
-      ∙ ap (λ j. cond (depends (2 ^ (c - 1)) here) (Node i (shape (c - 1) j (λ m. here (2 * m + 1))) (shape (c - 1) j (λ m. here (2 * m)))) (shape (c - 1) j (λ m. here (2 * m)))) (sym s)
+      ∙ ap (λ j. cond (depends (2 ^ (c - 1)) here) (Node i (shape (c - 1) j (λ m. here (2 * m + 1))) (shape (c - 1) j (λ m. here (2 * m))))
+      (shape (c - 1) j (λ m. here (2 * m)))) (sym s)
 
   lower : shape (c - 1) (i + 1) (λ m. here (2 * m)) ≡ shape (c - 1) (i + 1) (entry flags first (2 * step))
   lower = shape_same (c - 1) (i + 1) (λ m. here (2 * m)) (entry flags first (2 * step)) (λ m l. entry_even flags first step m)
@@ -80,13 +122,16 @@ module _ (flags : List Bool) (first step c i : ℕ) (some : 0 < c) where
   pub shape_skips : depends (2 ^ (c - 1)) here ≡ false → shape c i here ≡ shape (c - 1) (i + 1) (entry flags first (2 * step))
   shape_skips e =
       named
-      ∙ ap (λ b. cond b (Node i (shape (c - 1) (i + 1) (λ m. here (2 * m + 1))) (shape (c - 1) (i + 1) (λ m. here (2 * m)))) (shape (c - 1) (i + 1) (λ m. here (2 * m)))) e
+      ∙ ap (λ b. cond b (Node i (shape (c - 1) (i + 1) (λ m. here (2 * m + 1))) (shape (c - 1) (i + 1) (λ m. here (2 * m))))
+      (shape (c - 1) (i + 1) (λ m. here (2 * m)))) e
       ∙ lower
 
-  pub shape_splits : depends (2 ^ (c - 1)) here ≡ true → shape c i here ≡ Node i (shape (c - 1) (i + 1) (entry flags (first + step) (2 * step))) (shape (c - 1) (i + 1) (entry flags first (2 * step)))
+  pub shape_splits : depends (2 ^ (c - 1)) here ≡ true
+      → shape c i here ≡ Node i (shape (c - 1) (i + 1) (entry flags (first + step) (2 * step))) (shape (c - 1) (i + 1) (entry flags first (2 * step)))
   shape_splits e =
       named
-      ∙ ap (λ b. cond b (Node i (shape (c - 1) (i + 1) (λ m. here (2 * m + 1))) (shape (c - 1) (i + 1) (λ m. here (2 * m)))) (shape (c - 1) (i + 1) (λ m. here (2 * m)))) e
+      ∙ ap (λ b. cond b (Node i (shape (c - 1) (i + 1) (λ m. here (2 * m + 1))) (shape (c - 1) (i + 1) (λ m. here (2 * m))))
+      (shape (c - 1) (i + 1) (λ m. here (2 * m)))) e
       ∙ ap (λ x. Node i x (shape (c - 1) (i + 1) (λ m. here (2 * m)))) upper
       ∙ ap (λ x. Node i (shape (c - 1) (i + 1) (entry flags (first + step) (2 * step))) x) lower
 
@@ -123,7 +168,8 @@ module _ (masks : List ℕ) (flags : List Bool) (i x : ℕ) (within : i < length
       elim (cases_eq m x) [
         | inl q ↦
             let yes : nat_eq x m ≡ true = eq-eqb x m (sym q) in
-            let here : get_or next m false ≡ true = ap (λ f. get_or f m false) e ∙ ap (λ p. get_or (set flags x true) p false) q ∙ get_or-set_same flags x true false l in
+            let here : get_or next m false ≡ true = ap (λ f. get_or f m false) e ∙ ap (λ p. get_or (set flags x true) p false) q
+            ∙ get_or-set_same flags x true false l in
             here ∙ sym (has_more masks i x m within is ∙ or_here _ _ yes)
         | inr q ↦
             let no : nat_eq x m ≡ false = ne_eqb x m (λ z. absurd (q (sym z))) in
@@ -157,7 +203,8 @@ depends_from (suc b) m f l e = elim (cases_eq m b) [
 joined : (old d p q : List ℕ) → ((((old ++ 40 ∷ (d ++ 32 ∷ [])) ++ p) ++ 32 ∷ []) ++ q) ++ 41 ∷ [] ≡ old ++ 40 ∷ (d ++ 32 ∷ (p ++ 32 ∷ (q ++ 41 ∷ [])))
 joined old d p q = simp append_assoc
 
-pub node_written : (x y z : Shape) (i : ℕ) (old a b c d e : List ℕ) → x ≡ Node i y z → a ≡ old ++ 40 ∷ (decimal i ++ 32 ∷ []) → b ≡ a ++ shape_text y → c ≡ b ++ 32 ∷ [] → d ≡ c ++ shape_text z → e ≡ d ++ 41 ∷ []
+pub node_written : (x y z : Shape) (i : ℕ) (old a b c d e : List ℕ) → x ≡ Node i y z → a ≡ old ++ 40 ∷ (decimal i ++ 32 ∷ []) → b ≡ a ++ shape_text y
+    → c ≡ b ++ 32 ∷ [] → d ≡ c ++ shape_text z → e ≡ d ++ 41 ∷ []
     → e ≡ old ++ shape_text x
 node_written x y z i old a b c d e is p q r s t =
     t ∙ ap (λ l. l ++ 41 ∷ []) (s ∙ ap (λ l. l ++ shape_text z) (r ∙ ap (λ l. l ++ 32 ∷ []) (q ∙ ap (λ l. l ++ shape_text y) p)))

@@ -1,5 +1,36 @@
 -- Different terms have different texts.
-use Rattle.std.proofs.Common.{◌≡◌, ℕ, ℤ, pos, negsuc, suc, ◌^◌, ◌<◌, Bool, true, false, ◌&&◌, not, cond, eqb, ltb, List, [], ◌∷◌, ◌++◌, map, drop, refl, sym, ap, ◌∙◌, arith, append_assoc, codes, rules}
+use Rattle.std.proofs.Common.{
+  ◌≡◌,
+  ℕ,
+  ℤ,
+  pos,
+  negsuc,
+  suc,
+  ◌^◌,
+  ◌<◌,
+  Bool,
+  true,
+  false,
+  ◌&&◌,
+  not,
+  cond,
+  eqb,
+  ltb,
+  List,
+  [],
+  ◌∷◌,
+  ◌++◌,
+  map,
+  drop,
+  refl,
+  sym,
+  ap,
+  ◌∙◌,
+  arith,
+  append_assoc,
+  codes,
+  rules,
+}
 use Rattle.std.specs.Fmt.{decimal, signed_decimal}
 use Rattle.std.specs.List.{list_all, join_with_byte, AllByRecursion}
 use Rattle.std.specs.Char.{is_ascii_lowercase}
@@ -116,7 +147,8 @@ fits-roll (Term-F.Int n) = search (rules, the_lemmas)
 fits-roll (Term-F.Atom a) = search (rules, the_lemmas)
 fits-roll (Term-F.Compound name args) = search (rules, the_lemmas)
 
-text-Compound : (name : List ℕ) (args : List Term) → text_of (roll-Term (Term-F.Compound name args)) ≡ atom_text name ++ codes "(" ++ join_with_byte 44 (map text_of args) ++ codes ")"
+text-Compound : (name : List ℕ) (args : List Term)
+    → text_of (roll-Term (Term-F.Compound name args)) ≡ atom_text name ++ codes "(" ++ join_with_byte 44 (map text_of args) ++ codes ")"
 text-Compound name args = search (rules, the_lemmas)
 
 regroup : (a b us : List ℕ) → (((a ++ 40 ∷ []) ++ b) ++ 41 ∷ []) ++ us ≡ a ++ 40 ∷ (b ++ 41 ∷ us)
@@ -159,7 +191,8 @@ kind_is (Term-F.Int n) us f s = integer_is n us (short_integer n f)
 kind_is (Term-F.Atom a) us f s = atom_is a us (ends_atom us s)
 kind_is (Term-F.Compound name args) us f s = atom_is name (40 ∷ (join_with_byte 44 (map text_of args) ++ 41 ∷ us)) refl
 
-same_kind : (x y : Term-F Term) (us vs : List ℕ) → level_fits x ≡ true → level_fits y ≡ true → ends us ≡ true → ends vs ≡ true → written x us ≡ written y vs → kind_of x ≡ kind_of y
+same_kind : (x y : Term-F Term) (us vs : List ℕ) → level_fits x ≡ true → level_fits y ≡ true → ends us ≡ true → ends vs ≡ true → written x us ≡ written y vs
+    → kind_of x ≡ kind_of y
 same_kind x y us vs f g s t e = sym (kind_is x us f s) ∙ ap kind e ∙ kind_is y vs g t
 
 -- no term begins with a closing bracket
@@ -185,7 +218,8 @@ term_first t us f e =
 -- ---- the arguments
 
 abbrev IsApart : Term → Type 0
-IsApart s = (t : Term) (us vs : List ℕ) → numbers_fit s ≡ true → numbers_fit t ≡ true → ends us ≡ true → ends vs ≡ true → text_of s ++ us ≡ text_of t ++ vs → (s ≡ t) × (us ≡ vs)
+IsApart s = (t : Term) (us vs : List ℕ) → numbers_fit s ≡ true → numbers_fit t ≡ true → ends us ≡ true → ends vs ≡ true → text_of s ++ us ≡ text_of t ++ vs
+    → (s ≡ t) × (us ≡ vs)
 
 abbrev all_fit : List Term → Bool
 all_fit args = list_all (λ b. b) (map numbers_fit args)
@@ -235,7 +269,8 @@ args_apart (a ∷ c ∷ as') (b ∷ d ∷ bs) us vs h f g e =
 
 -- ---- terms
 
-levels_apart : (x y : Term-F Term) (us vs : List ℕ) → AllByRecursion IsApart (arguments x) → level_fits x ≡ true → level_fits y ≡ true → ends us ≡ true → ends vs ≡ true
+levels_apart : (x y : Term-F Term) (us vs : List ℕ) → AllByRecursion IsApart (arguments x) → level_fits x ≡ true → level_fits y ≡ true → ends us ≡ true
+    → ends vs ≡ true
     → written x us ≡ written y vs → kind_of x ≡ kind_of y → (x ≡ y) × (us ≡ vs)
 levels_apart (Term-F.Var v) (Term-F.Var w) us vs h f g s t e k =
     let (p, q) = decimals_apart v w us vs (short_variable v f) (short_variable w g) (ends_number us s) (ends_number vs t) (ap (drop 1) e) in

@@ -1,5 +1,36 @@
 -- Equations are solved in finitely many steps: each binding takes a variable away, each other step makes the equations smaller.
-use Rattle.std.proofs.Common.{◌≡◌, ◌⊎◌, inl, inr, ℕ, zero, suc, ◌+◌, ◌<◌, ◌≤◌, Bool, true, false, ◌||◌, cond, eqb, List, [], ◌∷◌, ◌++◌, map, sum, length, Some, refl, sym, ap, ◌∙◌, rules, arith}
+use Rattle.std.proofs.Common.{
+  ◌≡◌,
+  ◌⊎◌,
+  inl,
+  inr,
+  ℕ,
+  zero,
+  suc,
+  ◌+◌,
+  ◌<◌,
+  ◌≤◌,
+  Bool,
+  true,
+  false,
+  ◌||◌,
+  cond,
+  eqb,
+  List,
+  [],
+  ◌∷◌,
+  ◌++◌,
+  map,
+  sum,
+  length,
+  Some,
+  refl,
+  sym,
+  ap,
+  ◌∙◌,
+  rules,
+  arith,
+}
 use Rattle.std.specs.List.{AllByRecursion}
 use Rattle.std.proofs.lemmas.Bool.{eqb-true, eqb-false, eq-eqb}
 use Rattle.std.proofs.lemmas.List.Sums.{sum_by-cons}
@@ -212,7 +243,8 @@ abbrev Halts : Equations → Type 0
 Halts es = (n : ℕ) × (halts n es ≡ true)
 
 module _ (vs : List ℕ) (bind_case : (ws : List ℕ) → length ws < length vs → (es : Equations) → Covers ws es → Halts es) where
-  halts_by : (m : ℕ) (e : Term × Term) (es : Equations) → size_there (e ∷ es) ≤ suc m → Covers vs (e ∷ es) → ((fs : Equations) → size_there fs ≤ m → Covers vs fs → Halts fs)
+  halts_by : (m : ℕ) (e : Term × Term) (es : Equations) → size_there (e ∷ es) ≤ suc m → Covers vs (e ∷ es)
+      → ((fs : Equations) → size_there fs ≤ m → Covers vs fs → Halts fs)
       → (move : Move) → IsMove e.0 e.1 move → (n : ℕ) × (or_over true (halts n) (left_by move es) ≡ true)
   halts_by m e es small cover below Skip h =
       let p : 0 < size_of e.0 = size_pos e.0 in
@@ -226,7 +258,8 @@ module _ (vs : List ℕ) (bind_case : (ws : List ℕ) → length ws < length vs 
           elim (put_left v t w es o) [
             | inl p ↦
                 elim (decided (eqb v w)) [
-                  | inl q ↦ let same : v ≡ w = eqb-true v w q in let there : occurs v t ≡ true = ap (λ u. occurs u t) same ∙ p in let no : occurs v t ≡ false = h.0 in cc
+                  | inl q ↦ let same : v ≡ w = eqb-true v w q in let there : occurs v t ≡ true = ap (λ u. occurs u t) same ∙ p in
+                      let no : occurs v t ≡ false = h.0 in cc
                   | inr q ↦ q
                 ]
             | inr p ↦ p.1
@@ -254,7 +287,8 @@ pub all_halt : (es : Equations) → Halts es
 all_halt es = outer (length (variables_there es)) (variables_there es) (omega arith) es (covers es)
 
 -- the outcome is there
-solved_by : (n : ℕ) (bs : Bindings) (move : Move) (es : Equations) → ((fs : Equations) (cs : Bindings) → halts n fs ≡ true → (o : Outcome) × (solve n fs cs ≡ Some o))
+solved_by : (n : ℕ) (bs : Bindings) (move : Move) (es : Equations)
+    → ((fs : Equations) (cs : Bindings) → halts n fs ≡ true → (o : Outcome) × (solve n fs cs ≡ Some o))
     → or_over true (halts n) (left_by move es) ≡ true → (o : Outcome) × (going_on (solve n) (moved move es bs) ≡ Some o)
 solved_by n bs Skip es below h = below es bs h
 solved_by n bs (Bind v t) es below h = below (put v t es) (composed bs ((v, t) ∷ [])) h

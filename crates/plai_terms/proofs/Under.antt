@@ -66,7 +66,8 @@ module _ (f g : ℕ → Term) where
       (λ v e. let o : occurs v (Var v) ≡ true = search (rules, the_lemmas) in under-Var f v ∙ e v o ∙ sym (under-Var g v))
       (λ n e. search (rules, the_lemmas))
       (λ a e. search (rules, the_lemmas))
-      (λ name args h e. under-Compound f name args ∙ ap (Compound name) (agree_all args h (λ v o. e v (occurs-args v name args ∙ o))) ∙ sym (under-Compound g name args))
+      (λ name args h e. under-Compound f name args ∙ ap (Compound name) (agree_all args h (λ v o. e v (occurs-args v name args ∙ o)))
+      ∙ sym (under-Compound g name args))
 
 pub under_same_all : (f g : ℕ → Term) (ts : List Term) → ((v : ℕ) → occurs_in v ts ≡ true → f v ≡ g v) → map (under f) ts ≡ map (under g) ts
 under_same_all f g [] e = refl
@@ -172,7 +173,8 @@ module _ (f : ℕ → Term) (v w : ℕ) (there : occurs w (f v) ≡ true) where
       (λ u e. let same = occurs-Var_same v u e in ap (occurs w) (under-Var f u ∙ ap f (sym same)) ∙ there)
       (λ n e. let no : occurs v (Int n) ≡ false = search (rules, the_lemmas) in cc)
       (λ a e. let no : occurs v (Atom a) ≡ false = search (rules, the_lemmas) in cc)
-      (λ name args h e. ap (occurs w) (under-Compound f name args) ∙ occurs-args w name (map (under f) args) ∙ goes_all args h (sym (occurs-args v name args) ∙ e))
+      (λ name args h e. ap (occurs w) (under-Compound f name args) ∙ occurs-args w name (map (under f) args)
+      ∙ goes_all args h (sym (occurs-args v name args) ∙ e))
 
 pub reaches_in : (f : ℕ → Term) (v w : ℕ) → occurs w (f v) ≡ true → (ts : List Term) → occurs_in v ts ≡ true → occurs_in w (map (under f) ts) ≡ true
 reaches_in f v w there [] e = cc
@@ -183,7 +185,8 @@ reaches_in f v w there (a ∷ args) e =
     ]
 
 -- lists of bindings
-put_in : (b : Bool) (second : List (ℕ × Term)) (t rest rest' : Term) → rest ≡ apply_of second rest' → cond b (apply_of second t) rest ≡ apply_of second (cond b t rest')
+put_in : (b : Bool) (second : List (ℕ × Term)) (t rest rest' : Term) → rest ≡ apply_of second rest'
+    → cond b (apply_of second t) rest ≡ apply_of second (cond b t rest')
 put_in true second t rest rest' e = refl
 put_in false second t rest rest' e = e
 

@@ -1,5 +1,34 @@
 -- Each variable is below the limit where no subterm is a variable from the limit on.
-use Rattle.std.proofs.Common.{◌≡◌, ◌≢◌, ℕ, ℤ, ◌<◌, ◌≤◌, Bool, true, false, ◌&&◌, nat_lt, List, [], ◌∷◌, ◌++◌, map, flat_map, drop, length, refl, sym, ap, inl, inr, ◌∙◌, rules, arith, Bor}
+use Rattle.std.proofs.Common.{
+  ◌≡◌,
+  ◌≢◌,
+  ℕ,
+  ℤ,
+  ◌<◌,
+  ◌≤◌,
+  Bool,
+  true,
+  false,
+  ◌&&◌,
+  nat_lt,
+  List,
+  [],
+  ◌∷◌,
+  ◌++◌,
+  map,
+  flat_map,
+  drop,
+  length,
+  refl,
+  sym,
+  ap,
+  inl,
+  inr,
+  ◌∙◌,
+  rules,
+  arith,
+  Bor,
+}
 use Rattle.std.proofs.lemmas.Bool.{ltb-true}
 use Rattle.std.proofs.lemmas.List.{drop_all}
 use Rattle.std.specs.List.{list_all, AllByRecursion}
@@ -94,7 +123,8 @@ module _ (n : ℕ) where
   walked_in nodes t e = ap (all_within n) e ∙ is_walked t
 
   -- where no more subterms are left
-  pub walked_all : (nodes : List (Bor Term)) (i : ℕ) (t : Term) → length nodes ≤ i → all_within n (referred (drop i nodes)) ≡ has_variables_below n t → has_variables_below n t ≡ true
+  pub walked_all : (nodes : List (Bor Term)) (i : ℕ) (t : Term) → length nodes ≤ i → all_within n (referred (drop i nodes)) ≡ has_variables_below n t
+      → has_variables_below n t ≡ true
   walked_all nodes i t le e = sym e ∙ ap (λ us. all_within n (referred us)) (drop_all i nodes le)
 
   abbrev IsLow : Term → Type 0

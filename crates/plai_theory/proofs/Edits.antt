@@ -1,5 +1,29 @@
 -- Kept rows lie below the new stages, so work may open with them.
-use Rattle.std.proofs.Common.{◌≡◌, ℕ, zero, suc, ◌≤◌, true, false, List, [], ◌∷◌, ◌++◌, append-nil, Option, Some, None, sym, refl, ap, ◌∙◌, subst, inl, inr, arith}
+use Rattle.std.proofs.Common.{
+  ◌≡◌,
+  ℕ,
+  zero,
+  suc,
+  ◌≤◌,
+  true,
+  false,
+  List,
+  [],
+  ◌∷◌,
+  ◌++◌,
+  append-nil,
+  Option,
+  Some,
+  None,
+  sym,
+  refl,
+  ap,
+  ◌∙◌,
+  subst,
+  inl,
+  inr,
+  arith,
+}
 use Rattle.plai_theory.specs.Words.{IsIn, given, UpTo, item}
 use Rattle.plai_theory.specs.Domain.{Domain, Program, IsLawful}
 use Rattle.plai_theory.specs.Evaluation.{Source, NameOf, name_of, answer_of, calls_of}
@@ -28,12 +52,15 @@ item_append [] ys i x e = cc
 item_append (y ∷ xs) ys zero x e = e
 item_append (y ∷ xs) ys (suc i) x e = item_append xs ys i x e
 
-leads_on : (d : Domain) (g : Program d) (s : Source d) (x : NameOf d) (c : d.Clause) → IsIn c (g.clauses x.pred) → {y z : NameOf d} → IsIn y (calls_of d s c x.call) → Leads d g s y z → Leads d g s x z
+leads_on : (d : Domain) (g : Program d) (s : Source d) (x : NameOf d) (c : d.Clause) → IsIn c (g.clauses x.pred) → {y z : NameOf d}
+    → IsIn y (calls_of d s c x.call) → Leads d g s y z → Leads d g s x z
 leads_on d g s x c i j Stay = Go x c Stay i j
 leads_on d g s x c i j (Go m b l k t) = Go m b (leads_on d g s x c i j l) k t
 
-module _ (d : Domain) (old : Program d) (new : Program d) (laws : IsLawful d old) (laws' : IsLawful d new) (rows : List (Row d)) (closed : IsClosed d old rows) where
-  kept_calls : (x : NameOf d) → IsKept d old new rows x → (c : d.Clause) → IsIn c (old.clauses x.pred) → (y : NameOf d) → IsIn y (calls_of d (source_of d rows) c x.call) → IsKept d old new rows y
+module _ (d : Domain) (old : Program d) (new : Program d) (laws : IsLawful d old) (laws' : IsLawful d new) (rows : List (Row d))
+    (closed : IsClosed d old rows) where
+  kept_calls : (x : NameOf d) → IsKept d old new rows x → (c : d.Clause) → IsIn c (old.clauses x.pred) → (y : NameOf d)
+      → IsIn y (calls_of d (source_of d rows) c x.call) → IsKept d old new rows y
   kept_calls x (has, keeps) c i y j =
       ((closed_at d old laws rows closed).calls_in x.pred x.call has c i y.pred y.call j, λ z l. keeps z (leads_on d old (source_of d rows) x c i j l))
 
@@ -44,7 +71,8 @@ module _ (d : Domain) (old : Program d) (new : Program d) (laws : IsLawful d old
       rw e (in_append (old.clauses x.pred) more c i)
 
   -- Theorem: at a name that lies at or below a kept row's, each old stage lies at or below the new one.
-  pub kept_stage : (n : ℕ) (p : d.Pred) (v w : d.Value) → IsKept d old new rows (name_of d p w) → d.leq p v w → UpTo (d.leq p) (stage d old n p v) (stage d new n p v)
+  pub kept_stage : (n : ℕ) (p : d.Pred) (v w : d.Value) → IsKept d old new rows (name_of d p w) → d.leq p v w
+      → UpTo (d.leq p) (stage d old n p v) (stage d new n p v)
   unfolding stage
   kept_stage zero p v w kept le = tt
   kept_stage (suc n) p v w kept le =
@@ -61,7 +89,8 @@ module _ (d : Domain) (old : Program d) (new : Program d) (laws : IsLawful d old
       (λ b t. answer_le d new laws' (stage d new n) (stage d new n) p b t v v (laws.left le) (λ q x y i k. stage_le d new laws' n n (omega arith) q x y))
       c (kept_clause (name_of d p w) kept c j)))
 
-module _ (d : Domain) (old : Program d) (new : Program d) (laws : IsLawful d old) (laws' : IsLawful d new) (before : Order d) (order : IsStrictOrder d before) (rows : List (Row d)) (N : ℕ) (least : (n : ℕ) → N ≤ n → IsSnapshot d old before n rows) where
+module _ (d : Domain) (old : Program d) (new : Program d) (laws : IsLawful d old) (laws' : IsLawful d new) (before : Order d) (order : IsStrictOrder d before)
+    (rows : List (Row d)) (N : ℕ) (least : (n : ℕ) → N ≤ n → IsSnapshot d old before n rows) where
   pub closed : IsClosed d old rows
   closed = least_closed d old laws before order rows N least
 
@@ -119,28 +148,37 @@ module _ (d : Domain) (old : Program d) (new : Program d) (laws : IsLawful d old
         let (r, f) = open'.whole x kept in
         subst (λ (o : Option (WorkRow d)). given None (λ q. q.answer) o ≡ source_of d rows x.pred x.call) (sym f) (open'.answers x r f)
 
-    pub opened_agree : (x : NameOf d) → IsKept d old new rows x → (c : d.Clause) → IsIn c (old.clauses x.pred) → Agree d (present_source d opened) (source_of d rows) (calls_of d (source_of d rows) c x.call)
+    pub opened_agree : (x : NameOf d) → IsKept d old new rows x → (c : d.Clause) → IsIn c (old.clauses x.pred)
+        → Agree d (present_source d opened) (source_of d rows) (calls_of d (source_of d rows) c x.call)
     opened_agree x kept c i p v j = opened_answer (name_of d p v) (kept_calls d old new laws laws' rows closed x kept c i (name_of d p v) j)
 
     opened_low : IsFromBelow d new (present_source d opened)
     opened_low = (N, λ p v is. at_found p v (find d opened (name_of d p v)) refl)
       where
-        at_found : (p : d.Pred) (v : d.Value) → (o : Option (WorkRow d)) → find d opened (name_of d p v) ≡ o → UpTo (d.leq p) (given None (λ r. r.answer) o) (stage d new N p v)
+        at_found : (p : d.Pred) (v : d.Value) → (o : Option (WorkRow d)) → find d opened (name_of d p v) ≡ o
+            → UpTo (d.leq p) (given None (λ r. r.answer) o) (stage d new N p v)
         at_found p v None f = tt
         at_found p v (Some r) f = rw (open'.answers (name_of d p v) r f) (kept_low (name_of d p v) (open'.kept (name_of d p v) r f))
 
     -- what a row says of its old clauses
-    opened_calls : (x : NameOf d) (r : WorkRow d) → find d opened x ≡ Some r → (i : ℕ) (b : d.Clause) → item (old.clauses x.pred) i ≡ Some b → r.calls i ≡ calls_of d (present_source d opened) b x.call
+    opened_calls : (x : NameOf d) (r : WorkRow d) → find d opened x ≡ Some r → (i : ℕ) (b : d.Clause) → item (old.clauses x.pred) i ≡ Some b
+        → r.calls i ≡ calls_of d (present_source d opened) b x.call
     opened_calls x r f i b e =
-        (open'.old_clauses x r f i b e).1 ∙ sym (same_called d (present_source d opened) (source_of d rows) b x.call (opened_agree x (open'.kept x r f) b (item_in (old.clauses x.pred) i b e)))
+        (open'.old_clauses x r f i b e).1 ∙ sym (same_called d (present_source d opened) (source_of d rows) b x.call
+        (opened_agree x (open'.kept x r f) b (item_in (old.clauses x.pred) i b e)))
 
-    opened_covers : (x : NameOf d) (r : WorkRow d) → find d opened x ≡ Some r → (i : ℕ) (b : d.Clause) → item (old.clauses x.pred) i ≡ Some b → UpTo (d.leq x.pred) (answer_of d (present_source d opened) b x.call) r.answer
+    opened_covers : (x : NameOf d) (r : WorkRow d) → find d opened x ≡ Some r → (i : ℕ) (b : d.Clause) → item (old.clauses x.pred) i ≡ Some b
+        → UpTo (d.leq x.pred) (answer_of d (present_source d opened) b x.call) r.answer
     opened_covers x r f i b e =
-        rw (same_answer d (present_source d opened) (source_of d rows) b x.call (opened_agree x (open'.kept x r f) b (item_in (old.clauses x.pred) i b e)), open'.answers x r f)
+        rw (
+          same_answer d (present_source d opened) (source_of d rows) b x.call (opened_agree x (open'.kept x r f) b (item_in (old.clauses x.pred) i b e)),
+          open'.answers x r f,
+        )
         ((closed_at d old laws rows closed).answers x.pred x.call (open'.kept x r f).0 b (item_in (old.clauses x.pred) i b e))
 
     -- a clause of the new program that isn't dirty is the old one
-    pub old_item : (x : NameOf d) (r : WorkRow d) → find d opened x ≡ Some r → (i : ℕ) (c : d.Clause) → item (new.clauses x.pred) i ≡ Some c → r.dirty i ≡ false → item (old.clauses x.pred) i ≡ Some c
+    pub old_item : (x : NameOf d) (r : WorkRow d) → find d opened x ≡ Some r → (i : ℕ) (c : d.Clause) → item (new.clauses x.pred) i ≡ Some c
+        → r.dirty i ≡ false → item (old.clauses x.pred) i ≡ Some c
     old_item x r f i c e t = at_item (item (old.clauses x.pred) i) refl
       where
         at_item : (o : Option d.Clause) → item (old.clauses x.pred) i ≡ o → item (old.clauses x.pred) i ≡ Some c
@@ -172,12 +210,15 @@ module _ (d : Domain) (old : Program d) (new : Program d) (laws : IsLawful d old
         }
 
     -- Theorem: every legal log that opens with the kept rows and ends has the new program's least table as its result.
-    pub opened_log_least : (limit : ℕ) (es : List (LogEntry d)) → IsLegalLog d new limit (record { rows = opened; last = None }) es → IsEnd d new (after_all d new (record { rows = opened; last = None }) es) → (result : List (Row d)) → IsLogResult d new before (after_all d new (record { rows = opened; last = None }) es) result → IsLeastTable d new before result
+    pub opened_log_least : (limit : ℕ) (es : List (LogEntry d)) → IsLegalLog d new limit (record { rows = opened; last = None }) es
+        → IsEnd d new (after_all d new (record { rows = opened; last = None }) es) → (result : List (Row d))
+        → IsLogResult d new before (after_all d new (record { rows = opened; last = None }) es) result → IsLeastTable d new before result
     opened_log_least limit es legal end result =
         outcome_least d new laws' (after_all d new (record { rows = opened; last = None }) es)
         (log_keeps d new laws' limit (record { rows = opened; last = None }) es opened_inv legal) end before result
 
 -- the kept rows are within every limit, since none is live
-pub opened_room : (d : Domain) (old : Program d) (new : Program d) (laws' : IsLawful d new) (rows : List (Row d)) (opened : List (WorkRow d)) → IsOpening d old new rows opened → (limit : ℕ) → live_count d opened ≤ limit
+pub opened_room : (d : Domain) (old : Program d) (new : Program d) (laws' : IsLawful d new) (rows : List (Row d)) (opened : List (WorkRow d))
+    → IsOpening d old new rows opened → (limit : ℕ) → live_count d opened ≤ limit
 opened_room d old new laws' rows opened o limit =
     let k : live_count d opened ≡ 0 = dormant_count d new laws' opened o.own o.dormant in omega arith

@@ -13,7 +13,8 @@ abbrev pub IsPart : (d : Domain) → List (Step d.Literal d.Action) → d.Clause
 IsPart d steps c = (x : Step d.Literal d.Action) → IsIn x steps → IsIn x (d.body c)
 
 module _ (d : Domain) (g : Program d) (laws : IsLawful d g) (s t : Source d) (o : d.Pred) (c : d.Clause) (inside : IsIn c (g.clauses o)) where
-  final_le : (steps : List (Step d.Literal d.Action)) → IsPart d steps c → (a b : d.State) → d.below c a b → Meets d s t (calls_along d s steps a) (calls_along d t steps b) → UpTo (d.below c) (state_behind d s steps a) (state_behind d t steps b)
+  final_le : (steps : List (Step d.Literal d.Action)) → IsPart d steps c → (a b : d.State) → d.below c a b
+      → Meets d s t (calls_along d s steps a) (calls_along d t steps b) → UpTo (d.below c) (state_behind d s steps a) (state_behind d t steps b)
   unfolding state_behind calls_along
   final_le [] part a b h m = h
   final_le (Do x ∷ rest) part a b h m =
@@ -25,10 +26,13 @@ module _ (d : Domain) (g : Program d) (laws : IsLawful d g) (s t : Source d) (o 
       (m (d.callee l) (d.call l a) (d.call l b) (inl refl) (inl refl) (laws.call o c l a b inside (part _ (inl refl)) h))
       (λ x y ex ey xy. given_up_to (d.below c) (d.below c) (d.back l a x) (d.back l b y) _ _ (laws.back o c l a b x y inside (part _ (inl refl)) h xy)
       (λ a' b' ea eb k. final_le rest (λ z i. part z (inr i)) a' b' k
-      (λ p v w i j le. m p v w (inr (in_given _ (s (d.callee l) (d.call l a)) _ x ex (in_given _ (d.back l a x) _ a' ea i))) (inr (in_given _ (t (d.callee l) (d.call l b)) _ y ey (in_given _ (d.back l b y) _ b' eb j))) le)))
+      (λ p v w i j le. m p v w (inr (in_given _ (s (d.callee l) (d.call l a)) _ x ex (in_given _ (d.back l a x) _ a' ea i)))
+      (inr (in_given _ (t (d.callee l) (d.call l b)) _ y ey (in_given _ (d.back l b y) _ b' eb j))) le)))
 
   -- each name called below lies below one called above
-  calls_le : (steps : List (Step d.Literal d.Action)) → IsPart d steps c → (a b : d.State) → d.below c a b → Meets d s t (calls_along d s steps a) (calls_along d t steps b) → (p : d.Pred) (v : d.Value) → IsIn (name_of d p v) (calls_along d s steps a) → (w : d.Value) × IsIn (name_of d p w) (calls_along d t steps b) × d.leq p v w
+  calls_le : (steps : List (Step d.Literal d.Action)) → IsPart d steps c → (a b : d.State) → d.below c a b
+      → Meets d s t (calls_along d s steps a) (calls_along d t steps b) → (p : d.Pred) (v : d.Value) → IsIn (name_of d p v) (calls_along d s steps a)
+      → (w : d.Value) × IsIn (name_of d p w) (calls_along d t steps b) × d.leq p v w
   unfolding calls_along
   calls_le [] part a b h m p v i = absurd i
   calls_le (Do x ∷ rest) part a b h m p v i =
@@ -47,7 +51,8 @@ module _ (d : Domain) (g : Program d) (laws : IsLawful d g) (s t : Source d) (o 
       let (y, ey, xy) = upper_of (d.leq (d.callee l)) (s (d.callee l) (d.call l a)) (t (d.callee l) (d.call l b)) x (m _ _ _ (inl refl) (inl refl) le) ex in
       let (b', eb, k) = upper_of (d.below c) (d.back l a x) (d.back l b y) a' (laws.back o c l a b x y inside (part _ (inl refl)) h xy) ea in
       let (w, j, wle) = calls_le rest (λ z i. part z (inr i)) a' b' k
-      (λ p v w i j le. m p v w (inr (in_given _ (s (d.callee l) (d.call l a)) _ x ex (in_given _ (d.back l a x) _ a' ea i))) (inr (in_given _ (t (d.callee l) (d.call l b)) _ y ey (in_given _ (d.back l b y) _ b' eb j))) le) p v i2 in
+      (λ p v w i j le. m p v w (inr (in_given _ (s (d.callee l) (d.call l a)) _ x ex (in_given _ (d.back l a x) _ a' ea i)))
+      (inr (in_given _ (t (d.callee l) (d.call l b)) _ y ey (in_given _ (d.back l b y) _ b' eb j))) le) p v i2 in
       (w, inr (in_given _ (t (d.callee l) (d.call l b)) _ y ey (in_given _ (d.back l b y) _ b' eb j)), wle)))
 
 -- two sources that agree at the names that are called
@@ -55,7 +60,8 @@ abbrev pub Agree : (d : Domain) → Source d → Source d → List (NameOf d) �
 Agree d s t names = (p : d.Pred) (v : d.Value) → IsIn (name_of d p v) names → s p v ≡ t p v
 
 module _ (d : Domain) (s t : Source d) where
-  pub same_final : (steps : List (Step d.Literal d.Action)) (a : d.State) → Agree d s t (calls_along d t steps a) → state_behind d s steps a ≡ state_behind d t steps a
+  pub same_final : (steps : List (Step d.Literal d.Action)) (a : d.State) → Agree d s t (calls_along d t steps a)
+      → state_behind d s steps a ≡ state_behind d t steps a
   unfolding state_behind calls_along
   same_final [] a m = refl
   same_final (Do x ∷ rest) a m =
@@ -65,7 +71,8 @@ module _ (d : Domain) (s t : Source d) where
       (given_same None (t (d.callee l) (d.call l a)) _ _ (λ y ey. given_same None (d.back l a y) _ _ (λ b e.
       same_final rest b (λ p v i. m p v (inr (in_given _ (t (d.callee l) (d.call l a)) _ y ey (in_given _ (d.back l a y) _ b e i)))))))
 
-  pub same_calls : (steps : List (Step d.Literal d.Action)) (a : d.State) → Agree d s t (calls_along d t steps a) → calls_along d s steps a ≡ calls_along d t steps a
+  pub same_calls : (steps : List (Step d.Literal d.Action)) (a : d.State) → Agree d s t (calls_along d t steps a)
+      → calls_along d s steps a ≡ calls_along d t steps a
   unfolding calls_along
   same_calls [] a m = refl
   same_calls (Do x ∷ rest) a m =
@@ -83,10 +90,12 @@ module _ (d : Domain) (g : Program d) (laws : IsLawful d g) (s t : Source d) (p 
   answer_le v w h m =
       given_up_to (d.below c) (d.leq p) (d.enter c v) (d.enter c w) _ _ (laws.enter p c v w inside h) (λ a b ea eb k.
       given_up_to (d.below c) (d.leq p) (state_behind d s (d.body c) a) (state_behind d t (d.body c) b) _ _
-      (final_le d g laws s t p c inside (d.body c) (λ x i. i) a b k (λ q x y i j le. m q x y (in_given _ (d.enter c v) _ a ea i) (in_given _ (d.enter c w) _ b eb j) le))
+      (final_le d g laws s t p c inside (d.body c) (λ x i. i) a b k
+      (λ q x y i j le. m q x y (in_given _ (d.enter c v) _ a ea i) (in_given _ (d.enter c w) _ b eb j) le))
       (λ a' b' ea' eb' k'. laws.exit p c a' b' inside k'))
 
-  pub called_le : (v w : d.Value) → d.leq p v w → Meets d s t (calls_of d s c v) (calls_of d t c w) → (q : d.Pred) (x : d.Value) → IsIn (name_of d q x) (calls_of d s c v) → (y : d.Value) × IsIn (name_of d q y) (calls_of d t c w) × d.leq q x y
+  pub called_le : (v w : d.Value) → d.leq p v w → Meets d s t (calls_of d s c v) (calls_of d t c w) → (q : d.Pred) (x : d.Value)
+      → IsIn (name_of d q x) (calls_of d s c v) → (y : d.Value) × IsIn (name_of d q y) (calls_of d t c w) × d.leq q x y
   unfolding calls_of
   called_le v w h m q x i =
       given_in _ (name_of d q x) (d.enter c v) _ i (λ a ea i'.

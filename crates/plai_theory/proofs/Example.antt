@@ -98,10 +98,13 @@ closed =
     record {
       distinct = ((λ q i e. by_name q i (ap (λ (x : NameOf one). x.pred) e)), ((λ q i. absurd i), tt));
       entries = λ x i. at_entry x i;
-      calls = at_rows (λ r. (c : ℕ) → IsIn c (clauses_of r.name.pred) → (x : NameOf one) → IsIn x (calls_of one (source_of one table) c r.name.call) → HasName one table x)
+      calls = at_rows (λ r. (c : ℕ) → IsIn c (clauses_of r.name.pred) → (x : NameOf one) → IsIn x (calls_of one (source_of one table) c r.name.call)
+          → HasName one table x)
           (λ c i. at_one (λ c. (x : NameOf one) → IsIn x (calls_of one (source_of one table) c tt) → HasName one table x) 0 c calls_second i)
-          (λ c i. at_two (λ c. (x : NameOf one) → IsIn x (calls_of one (source_of one table) c tt) → HasName one table x) 1 2 c calls_first (λ x j. absurd j) i);
-      answers = at_rows (λ r. (c : ℕ) → IsIn c (clauses_of r.name.pred) → UpTo (one.leq r.name.pred) (answer_of one (source_of one table) c r.name.call) r.answer)
+          (λ c i. at_two (λ c. (x : NameOf one) → IsIn x (calls_of one (source_of one table) c tt) → HasName one table x) 1 2 c calls_first
+          (λ x j. absurd j) i);
+      answers = at_rows (λ r. (c : ℕ) → IsIn c (clauses_of r.name.pred)
+          → UpTo (one.leq r.name.pred) (answer_of one (source_of one table) c r.name.call) r.answer)
           (λ c i. at_one (λ c. UpTo (one.leq 0) (answer_of one (source_of one table) c tt) (Some tt)) 0 c tt i)
           (λ c i. at_two (λ c. UpTo (one.leq 1) (answer_of one (source_of one table) c tt) (Some tt)) 1 2 c tt tt i);
     }
@@ -126,9 +129,13 @@ pub least : IsLeastTable one program (λ x y. x.pred < y.pred) table
 unfolding stage best_of join_of answer_of state_behind calls_of calls_along
 least =
     closed_is_least one program lawful table closed (λ x y. x.pred < y.pred)
-    (before_second, ((λ q i. absurd i), tt))
-    (2, λ p v is. below_at one program lawful table 2 (at_rows (λ r. UpTo (one.leq r.name.pred) r.answer (stage one program 2 r.name.pred r.name.call)) tt tt) p v)
-    (at_rows (λ r. (k : ℕ) × Reaches one program (source_of one table) k r.name) (0, AtEntry (inl refl)) (1, ByCall first.name 0 (AtEntry (inl refl)) (inl refl) (inl refl)))
+    (before_second, ((λ q i. absurd i), tt)) (
+      2,
+      λ p v is. below_at one program lawful table 2
+          (at_rows (λ r. UpTo (one.leq r.name.pred) r.answer (stage one program 2 r.name.pred r.name.call)) tt tt) p v,
+    )
+    (at_rows (λ r. (k : ℕ) × Reaches one program (source_of one table) k r.name) (0, AtEntry (inl refl))
+    (1, ByCall first.name 0 (AtEntry (inl refl)) (inl refl) (inl refl)))
   where
     before_second : (q : Row one) → IsIn q (second ∷ []) → 0 < q.name.pred
     before_second q (inl e) = let k : 1 ≡ q.name.pred = ap (λ (r : Row one). r.name.pred) e in omega arith
@@ -146,7 +153,8 @@ log =
     Made p0 ∷ Evaluated p0 0 ∷ Made q1 ∷ Evaluated q1 0 ∷ Evaluated q1 1 ∷ Grew q1 (Some tt) ∷ Evaluated p0 0
     ∷ Grew p0 (Some tt) ∷ Evaluated q1 0 ∷ []
 
-none_due : (rows : List (WorkRow one)) (y : NameOf one) (j : ℕ) → next_answer one program rows y j ≡ present_source one rows y.pred y.call → (x : NameOf one) (i : ℕ) → IsExcepted one (Some (y, j)) x i → next_answer one program rows x i ≡ present_source one rows x.pred x.call
+none_due : (rows : List (WorkRow one)) (y : NameOf one) (j : ℕ) → next_answer one program rows y j ≡ present_source one rows y.pred y.call
+    → (x : NameOf one) (i : ℕ) → IsExcepted one (Some (y, j)) x i → next_answer one program rows x i ≡ present_source one rows x.pred x.call
 none_due rows y j h x i e =
     subst (λ (z : NameOf one × ℕ). next_answer one program rows z.0 z.1 ≡ present_source one rows z.0.pred z.0.call) (ap (given (y, j) (λ z. z)) e) h
 
@@ -157,11 +165,20 @@ legal = (
   (
     ((λ x i e. cc), (_, refl, refl, refl), (0, refl)),
     (
-      (none_due (after_all one program (no_work one) (Made p0 ∷ Evaluated p0 0 ∷ [])).rows p0 0 refl, inr (p0, record { row = _; number = 0; clause = 0; there = refl; is_live = refl; is_clause = refl; names = inl refl }), refl, lit< tt),
+      (
+        none_due (after_all one program (no_work one) (Made p0 ∷ Evaluated p0 0 ∷ [])).rows p0 0 refl,
+        inr (p0, record { row = _; number = 0; clause = 0; there = refl; is_live = refl; is_clause = refl; names = inl refl }),
+        refl,
+        lit< tt,
+      ),
       (
         ((λ x i e. cc), (_, refl, refl, refl), (1, refl)),
         (
-          (none_due (after_all one program (no_work one) (Made p0 ∷ Evaluated p0 0 ∷ Made q1 ∷ Evaluated q1 0 ∷ [])).rows q1 0 refl, (_, refl, refl, refl), (2, refl)),
+          (
+            none_due (after_all one program (no_work one) (Made p0 ∷ Evaluated p0 0 ∷ Made q1 ∷ Evaluated q1 0 ∷ [])).rows q1 0 refl,
+            (_, refl, refl, refl),
+            (2, refl),
+          ),
           (
             (1, refl, refl, (λ e. cc)),
             (

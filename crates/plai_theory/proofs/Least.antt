@@ -10,7 +10,8 @@ use Rattle.plai_theory.proofs.Stages.{trans_at, antisym_at, stage_le, stage_belo
 abbrev pub IsReached : (d : Domain) → Program d → Source d → d.Pred → d.Value → Type 0
 IsReached d g s p v = (k : ℕ) × Reaches d g s k (name_of d p v)
 
-pub reached_calls : (d : Domain) (g : Program d) (s : Source d) (p : d.Pred) (v : d.Value) → IsReached d g s p v → (c : d.Clause) → IsIn c (g.clauses p) → (q : d.Pred) (x : d.Value) → IsIn (name_of d q x) (calls_of d s c v) → IsReached d g s q x
+pub reached_calls : (d : Domain) (g : Program d) (s : Source d) (p : d.Pred) (v : d.Value) → IsReached d g s p v → (c : d.Clause) → IsIn c (g.clauses p)
+    → (q : d.Pred) (x : d.Value) → IsIn (name_of d q x) (calls_of d s c v) → IsReached d g s q x
 reached_calls d g s p v r c i q x j = (suc r.0, ByCall (name_of d p v) c r.1 i j)
 
 module _ (d : Domain) (g : Program d) (laws : IsLawful d g) (s : Source d) (low : IsFromBelow d g s) where
@@ -19,7 +20,8 @@ module _ (d : Domain) (g : Program d) (laws : IsLawful d g) (s : Source d) (low 
   reached_value k x r =
       let (w, i, le) = reach_below d g laws s (stage d g low.0) (IsReached d g (stage d g low.0)) (reached_calls d g (stage d g low.0))
       (λ p v i. (zero, AtEntry i))
-      (λ p v w i le. trans_at d g laws p (s p v) (stage d g low.0 p v) (stage d g low.0 p w) (low.1 p v (laws.left le)) (stage_le d g laws low.0 low.0 (omega arith) p v w le)) r in
+      (λ p v w i le. trans_at d g laws p (s p v) (stage d g low.0 p v) (stage d g low.0 p w) (low.1 p v (laws.left le))
+      (stage_le d g laws low.0 low.0 (omega arith) p v w le)) r in
       laws.left le
 
   module _ (done : IsSettled d g s) where
@@ -36,18 +38,21 @@ module _ (d : Domain) (g : Program d) (laws : IsLawful d g) (s : Source d) (low 
         (low.1 x.pred x.call le) (stage_le d g laws low.0 n h x.pred x.call x.call le))
 
 -- one number of steps reaches all rows
-pub steps_for_all : (d : Domain) (g : Program d) (s : Source d) (rows : List (Row d)) → ((r : Row d) → IsIn r rows → (k : ℕ) × Reaches d g s k r.name) → (K : ℕ) × ((r : Row d) → IsIn r rows → Reaches d g s K r.name)
+pub steps_for_all : (d : Domain) (g : Program d) (s : Source d) (rows : List (Row d)) → ((r : Row d) → IsIn r rows → (k : ℕ) × Reaches d g s k r.name)
+    → (K : ℕ) × ((r : Row d) → IsIn r rows → Reaches d g s K r.name)
 steps_for_all d g s [] h = (zero, λ r i. absurd i)
 steps_for_all d g s (q ∷ rows) h =
     let (k, now) = h q (inl refl) in
     let (K, rest) = steps_for_all d g s rows (λ r i. h r (inr i)) in
     (k + K, λ r i. steps_more d g s q r rows k K now rest i)
   where
-    steps_more : (d : Domain) (g : Program d) (s : Source d) (q r : Row d) (rows : List (Row d)) (k K : ℕ) → Reaches d g s k q.name → ((r : Row d) → IsIn r rows → Reaches d g s K r.name) → IsIn r (q ∷ rows) → Reaches d g s (k + K) r.name
+    steps_more : (d : Domain) (g : Program d) (s : Source d) (q r : Row d) (rows : List (Row d)) (k K : ℕ) → Reaches d g s k q.name
+        → ((r : Row d) → IsIn r rows → Reaches d g s K r.name) → IsIn r (q ∷ rows) → Reaches d g s (k + K) r.name
     steps_more d g s q r rows k K now rest (inl e) = reach_more d g s (k + K) (omega arith) (subst (λ (x : Row d). Reaches d g s k x.name) e now)
     steps_more d g s q r rows k K now rest (inr i) = reach_more d g s (k + K) (omega arith) (rest r i)
 
-pub least_table : (d : Domain) (g : Program d) (laws : IsLawful d g) (before : Order d) (s : Source d) (rows : List (Row d)) → IsFromBelow d g s → IsSettled d g s → IsTableOf d g before s rows → IsLeastTable d g before rows
+pub least_table : (d : Domain) (g : Program d) (laws : IsLawful d g) (before : Order d) (s : Source d) (rows : List (Row d)) → IsFromBelow d g s
+    → IsSettled d g s → IsTableOf d g before s rows → IsLeastTable d g before rows
 least_table d g laws before s rows low done result =
     let (K, reach) = steps_for_all d g s rows (λ r i. (result.sound r i).0) in (
       low.0 + K,

@@ -1,11 +1,71 @@
 -- Legal work keeps an invariant, and a log that ends has the least table as its result.
-use Rattle.std.proofs.Common.{◌≡◌, ◌≢◌, ◌⊎◌, ℕ, zero, suc, true, false, cond, List, [], ◌∷◌, ◌++◌, map, Option, Some, None, nat_eq, eqb-true, sym, refl, ap, ap₂, ◌∙◌, subst, inl, inr, arith}
+use Rattle.std.proofs.Common.{
+  ◌≡◌,
+  ◌≢◌,
+  ◌⊎◌,
+  ℕ,
+  zero,
+  suc,
+  true,
+  false,
+  cond,
+  List,
+  [],
+  ◌∷◌,
+  ◌++◌,
+  map,
+  Option,
+  Some,
+  None,
+  nat_eq,
+  eqb-true,
+  sym,
+  refl,
+  ap,
+  ap₂,
+  ◌∙◌,
+  subst,
+  inl,
+  inr,
+  arith,
+}
 use Rattle.plai_theory.specs.Words.{IsIn, given, UpTo, item}
 use Rattle.plai_theory.specs.Domain.{Domain, Program, IsLawful}
 use Rattle.plai_theory.specs.Evaluation.{Source, NameOf, name_of, answer_of, calls_of}
 use Rattle.plai_theory.specs.Stages.{stage, Reaches, AtEntry, ByCall, IsFromBelow, IsSettled}
 use Rattle.plai_theory.specs.LeastTable.{Row, Order, IsLeastTable}
-use Rattle.plai_theory.specs.LegalWork.{WorkRow, Work, Made, Woke, Evaluated, Grew, find, present_source, mentions, new_row, after_waking, after_evaluating, after_growing, calls_now, answer_now, next_answer, after, IsDue, NoneDue, IsDemanded, IsLegal, IsLegalLog, after_all, IsEnd, IsNeeded, First, Then, IsLogResult, no_work, LogEntry}
+use Rattle.plai_theory.specs.LegalWork.{
+  WorkRow,
+  Work,
+  Made,
+  Woke,
+  Evaluated,
+  Grew,
+  find,
+  present_source,
+  mentions,
+  new_row,
+  after_waking,
+  after_evaluating,
+  after_growing,
+  calls_now,
+  answer_now,
+  next_answer,
+  after,
+  IsDue,
+  NoneDue,
+  IsDemanded,
+  IsLegal,
+  IsLegalLog,
+  after_all,
+  IsEnd,
+  IsNeeded,
+  First,
+  Then,
+  IsLogResult,
+  no_work,
+  LogEntry,
+}
 use Rattle.plai_theory.proofs.Options.{by_test}
 use Rattle.plai_theory.proofs.Eval.{same_answer, same_called, Agree}
 use Rattle.plai_theory.proofs.Stages.{trans_at, left_at, joined_first, joined_second, joined_least}
@@ -27,7 +87,8 @@ RecordsCalls d g s x r = (i : ℕ) (c : d.Clause) → item (g.clauses x.pred) i 
 
 -- and its answer lies at or below the row's, or the pair is the excepted one
 abbrev pub CoversAnswers : (d : Domain) → Program d → Source d → Option (NameOf d × ℕ) → NameOf d → WorkRow d → Type 0
-CoversAnswers d g s last x r = (i : ℕ) (c : d.Clause) → item (g.clauses x.pred) i ≡ Some c → r.dirty i ≡ false → IsExcepted d last x i ⊎ UpTo (d.leq x.pred) (answer_of d s c x.call) r.answer
+CoversAnswers d g s last x r = (i : ℕ) (c : d.Clause) → item (g.clauses x.pred) i ≡ Some c → r.dirty i ≡ false
+    → IsExcepted d last x i ⊎ UpTo (d.leq x.pred) (answer_of d s c x.call) r.answer
 
 -- where the row is near, so is what its recorded calls name
 abbrev pub CallsNear : (d : Domain) → Program d → NameOf d → WorkRow d → Type 0
@@ -44,10 +105,15 @@ pub record Inv (d : Domain) (g : Program d) (rows : List (WorkRow d)) (last : Op
 
 module _ (d : Domain) (g : Program d) (laws : IsLawful d g) where
   -- the join of a row's answer with an evaluation of it lies above both, where the name is a value
-  pub next_above : (rows : List (WorkRow d)) → IsFromBelow d g (present_source d rows) → (x : NameOf d) → d.leq x.pred x.call x.call → (i : ℕ) (c : d.Clause) → item (g.clauses x.pred) i ≡ Some c → UpTo (d.leq x.pred) (present_source d rows x.pred x.call) (next_answer d g rows x i) × UpTo (d.leq x.pred) (answer_of d (present_source d rows) c x.call) (next_answer d g rows x i)
+  pub next_above : (rows : List (WorkRow d)) → IsFromBelow d g (present_source d rows) → (x : NameOf d) → d.leq x.pred x.call x.call → (i : ℕ) (c : d.Clause)
+      → item (g.clauses x.pred) i ≡ Some c → UpTo (d.leq x.pred) (present_source d rows x.pred x.call) (next_answer d g rows x i)
+      × UpTo (d.leq x.pred) (answer_of d (present_source d rows) c x.call) (next_answer d g rows x i)
   next_above rows low x value i c e =
-      let a : UpTo (d.leq x.pred) (present_source d rows x.pred x.call) (present_source d rows x.pred x.call) = left_at d g laws x.pred (present_source d rows x.pred x.call) _ (low.1 x.pred x.call value) in
-      let b : UpTo (d.leq x.pred) (answer_of d (present_source d rows) c x.call) (answer_of d (present_source d rows) c x.call) = left_at d g laws x.pred (answer_of d (present_source d rows) c x.call) _ (answer_low d g laws (present_source d rows) low x value c (item_in (g.clauses x.pred) i c e)) in
+      let a : UpTo (d.leq x.pred) (present_source d rows x.pred x.call) (present_source d rows x.pred x.call) =
+      left_at d g laws x.pred (present_source d rows x.pred x.call) _ (low.1 x.pred x.call value) in
+      let b : UpTo (d.leq x.pred) (answer_of d (present_source d rows) c x.call) (answer_of d (present_source d rows) c x.call) =
+      left_at d g laws x.pred (answer_of d (present_source d rows) c x.call) _
+      (answer_low d g laws (present_source d rows) low x value c (item_in (g.clauses x.pred) i c e)) in
       rw e (
         joined_first d g laws x.pred (present_source d rows x.pred x.call) (answer_of d (present_source d rows) c x.call) a b,
         joined_second d g laws x.pred (present_source d rows x.pred x.call) (answer_of d (present_source d rows) c x.call) a b,
@@ -65,10 +131,13 @@ module _ (d : Domain) (g : Program d) (laws : IsLawful d g) where
         clean_answers = λ x r f i c e t. inr (settled_answer x r f i c e (inv.clean_answers x r f i c e t));
       }
     where
-      settled_answer : (x : NameOf d) (r : WorkRow d) → find d w.rows x ≡ Some r → (i : ℕ) (c : d.Clause) → item (g.clauses x.pred) i ≡ Some c → (w.last ≡ Some (x, i)) ⊎ UpTo (d.leq x.pred) (answer_of d (present_source d w.rows) c x.call) r.answer → UpTo (d.leq x.pred) (answer_of d (present_source d w.rows) c x.call) r.answer
+      settled_answer : (x : NameOf d) (r : WorkRow d) → find d w.rows x ≡ Some r → (i : ℕ) (c : d.Clause) → item (g.clauses x.pred) i ≡ Some c
+          → (w.last ≡ Some (x, i)) ⊎ UpTo (d.leq x.pred) (answer_of d (present_source d w.rows) c x.call) r.answer
+          → UpTo (d.leq x.pred) (answer_of d (present_source d w.rows) c x.call) r.answer
       settled_answer x r f i c e (inr h) = h
       settled_answer x r f i c e (inl l) =
-          let h : UpTo (d.leq x.pred) (answer_of d (present_source d w.rows) c x.call) (next_answer d g w.rows x i) = (next_above w.rows inv.low x (inv.value_names x r f) i c e).1 in
+          let h : UpTo (d.leq x.pred) (answer_of d (present_source d w.rows) c x.call) (next_answer d g w.rows x i) =
+          (next_above w.rows inv.low x (inv.value_names x r f) i c e).1 in
           let k : next_answer d g w.rows x i ≡ r.answer = none x i l ∙ ap (given None (λ (q : WorkRow d). q.answer)) f in
           subst (λ (o : Option d.Value). UpTo (d.leq x.pred) (answer_of d (present_source d w.rows) c x.call) o) k h
 
@@ -80,20 +149,24 @@ module _ (d : Domain) (g : Program d) (laws : IsLawful d g) where
   near_demanded rows inv x (inl i) = near_entry d g laws x i
   near_demanded rows inv x (inr (m, rec)) = inv.near_calls m rec.row rec.there rec.number x rec.names (inv.near_live m rec.row rec.there rec.is_live)
 
-  pub by_push : (P : NameOf d → WorkRow d → Type 0) (rows : List (WorkRow d)) (x y : NameOf d) (r : WorkRow d) → find d (rows ++ new_row d x ∷ []) y ≡ Some r → (find d rows y ≡ Some r → P y r) → P x (new_row d x) → P y r
+  pub by_push : (P : NameOf d → WorkRow d → Type 0) (rows : List (WorkRow d)) (x y : NameOf d) (r : WorkRow d) → find d (rows ++ new_row d x ∷ []) y ≡ Some r
+      → (find d rows y ≡ Some r → P y r) → P x (new_row d x) → P y r
   by_push P rows x y r e h k = at_found (find d rows y) refl (sym (find_push d g laws rows (new_row d x) y) ∙ e)
     where
       at_found : (o : Option (WorkRow d)) → find d rows y ≡ o → given (cond (d.same_name x y) (Some (new_row d x)) None) Some o ≡ Some r → P y r
       at_found None f u =
           by_test (d.same_name x y)
-          (λ t. let a : Some (new_row d x) ≡ Some r = rw t at u in let b : new_row d x ≡ r = cc in subst (λ z. P z r) (laws.same_true x y t) (subst (λ z. P x z) b k))
+          (λ t. let a : Some (new_row d x) ≡ Some r = rw t at u in let b : new_row d x ≡ r = cc in
+          subst (λ z. P z r) (laws.same_true x y t) (subst (λ z. P x z) b k))
           (λ t. let a : ◌≡◌ {A = Option (WorkRow d)} None (Some r) = rw t at u in cc)
       at_found (Some q) f u = h (f ∙ u)
 
-  pub present_push : (rows : List (WorkRow d)) (x : NameOf d) (p : d.Pred) (v : d.Value) → present_source d (rows ++ new_row d x ∷ []) p v ≡ present_source d rows p v
+  pub present_push : (rows : List (WorkRow d)) (x : NameOf d) (p : d.Pred) (v : d.Value)
+      → present_source d (rows ++ new_row d x ∷ []) p v ≡ present_source d rows p v
   present_push rows x p v = rw (find_push d g laws rows (new_row d x) (name_of d p v)) (at_found (find d rows (name_of d p v)))
     where
-      at_found : (o : Option (WorkRow d)) → given None (λ (r : WorkRow d). r.answer) (given (cond (d.same_name x (name_of d p v)) (Some (new_row d x)) None) Some o) ≡ given None (λ r. r.answer) o
+      at_found : (o : Option (WorkRow d)) → given None (λ (r : WorkRow d). r.answer)
+          (given (cond (d.same_name x (name_of d p v)) (Some (new_row d x)) None) Some o) ≡ given None (λ r. r.answer) o
       at_found None = by_test (d.same_name x (name_of d p v)) (λ t. rw t refl) (λ t. rw t refl)
       at_found (Some q) = refl
 
@@ -101,14 +174,17 @@ module _ (d : Domain) (g : Program d) (laws : IsLawful d g) where
   made rows inv x dem =
       record {
         low = same_low (present_source d (rows ++ new_row d x ∷ [])) (present_source d rows) (present_push rows x) inv.low;
-        value_names = λ y r e. by_push (λ y r. d.leq y.pred y.call y.call) rows x y r e (λ f. inv.value_names y r f) (near_value d g laws x (near_demanded rows inv x dem));
+        value_names = λ y r e. by_push (λ y r. d.leq y.pred y.call y.call) rows x y r e (λ f. inv.value_names y r f)
+            (near_value d g laws x (near_demanded rows inv x dem));
         near_live = λ y r e. by_push (λ y r. r.live ≡ true → IsNear d g y) rows x y r e (λ f. inv.near_live y r f) (λ t. near_demanded rows inv x dem);
         near_calls = λ y r e. by_push (CallsNear d g) rows x y r e (λ f. inv.near_calls y r f) (λ i z j. absurd j);
         clean_calls = λ y r e. by_push (RecordsCalls d g (present_source d (rows ++ new_row d x ∷ []))) rows x y r e
-            (λ f i c j t. inv.clean_calls y r f i c j t ∙ sym (same_called d (present_source d (rows ++ new_row d x ∷ [])) (present_source d rows) c y.call (λ p v k. present_push rows x p v)))
+            (λ f i c j t. inv.clean_calls y r f i c j t
+            ∙ sym (same_called d (present_source d (rows ++ new_row d x ∷ [])) (present_source d rows) c y.call (λ p v k. present_push rows x p v)))
             (λ i c j t. cc);
         clean_answers = λ y r e. by_push (CoversAnswers d g (present_source d (rows ++ new_row d x ∷ [])) None) rows x y r e
-            (λ f i c j t. rw (same_answer d (present_source d (rows ++ new_row d x ∷ [])) (present_source d rows) c y.call (λ p v k. present_push rows x p v)) (inv.clean_answers y r f i c j t))
+            (λ f i c j t. rw (same_answer d (present_source d (rows ++ new_row d x ∷ [])) (present_source d rows) c y.call (λ p v k. present_push rows x p v))
+            (inv.clean_answers y r f i c j t))
             (λ i c j t. cc);
       }
 
@@ -135,9 +211,11 @@ module _ (d : Domain) (g : Program d) (laws : IsLawful d g) where
           near_live = λ y r e. by_map d g laws f keeps (λ r. r.live ≡ true → IsNear d g y) rows y r e (live y);
           near_calls = λ y r e. by_map d g laws f keeps (CallsNear d g y) rows y r e (near y);
           clean_calls = λ y r e. by_map d g laws f keeps (RecordsCalls d g (present_source d (map f rows)) y) rows y r e
-              (λ q h i c j t. calls y q h i c j t ∙ sym (same_called d (present_source d (map f rows)) (present_source d rows) c y.call (λ p v k. present_kept rows p v)));
+              (λ q h i c j t. calls y q h i c j t ∙ sym
+              (same_called d (present_source d (map f rows)) (present_source d rows) c y.call (λ p v k. present_kept rows p v)));
           clean_answers = λ y r e. by_map d g laws f keeps (CoversAnswers d g (present_source d (map f rows)) next y) rows y r e
-              (λ q h i c j t. rw (same_answer d (present_source d (map f rows)) (present_source d rows) c y.call (λ p v k. present_kept rows p v)) (covers y q h i c j t));
+              (λ q h i c j t. rw (same_answer d (present_source d (map f rows)) (present_source d rows) c y.call (λ p v k. present_kept rows p v))
+              (covers y q h i c j t));
         }
 
   pub woke : (rows : List (WorkRow d)) → Inv d g rows None → (x : NameOf d) → IsDemanded d g rows x → Inv d g (map (after_waking d x) rows) None
@@ -149,13 +227,15 @@ module _ (d : Domain) (g : Program d) (laws : IsLawful d g) where
       inv.near_calls inv.clean_calls inv.clean_answers
 
   -- one clause is evaluated
-  module _ (rows : List (WorkRow d)) (inv : Inv d g rows None) (x : NameOf d) (i : ℕ) (c : d.Clause) (number : item (g.clauses x.pred) i ≡ Some c) (row : (r : WorkRow d) × (find d rows x ≡ Some r)) where
+  module _ (rows : List (WorkRow d)) (inv : Inv d g rows None) (x : NameOf d) (i : ℕ) (c : d.Clause) (number : item (g.clauses x.pred) i ≡ Some c)
+      (row : (r : WorkRow d) × (find d rows x ≡ Some r)) where
     near_now : (y : NameOf d) → IsIn y (calls_now d g rows x i) → IsNear d g x → IsNear d g y
     near_now y j near =
         near_call d g laws (present_source d rows) inv.low x near c (item_in (g.clauses x.pred) i c number) y (rw number at j)
 
     -- the pair that was evaluated, under its names
-    now_is : (y : NameOf d) (k : ℕ) (b : d.Clause) → x ≡ y → i ≡ k → item (g.clauses y.pred) k ≡ Some b → calls_now d g rows x i ≡ calls_of d (present_source d rows) b y.call
+    now_is : (y : NameOf d) (k : ℕ) (b : d.Clause) → x ≡ y → i ≡ k → item (g.clauses y.pred) k ≡ Some b
+        → calls_now d g rows x i ≡ calls_of d (present_source d rows) b y.call
     now_is y k b ex ei e =
         ap₂ (λ (a : NameOf d) (j : ℕ). calls_now d g rows a j) ex ei ∙ ap (given [] (λ c. calls_of d (present_source d rows) c y.call)) e
 
@@ -167,10 +247,12 @@ module _ (d : Domain) (g : Program d) (laws : IsLawful d g) where
         changed (after_evaluating d x i (calls_now d g rows x i)) (λ r. refl) (λ r. refl) rows None (Some (x, i)) inv
         inv.near_live
         (λ y r f k z j near. by_test (d.same_name r.name x)
-        (λ t. by_test (nat_eq i k) (λ u. near_now z (rw (t, u) at j) (subst (λ (z : NameOf d). IsNear d g z) (sym (same_row y r f t)) near)) (λ u. inv.near_calls y r f k z (rw (t, u) at j) near))
+        (λ t. by_test (nat_eq i k) (λ u. near_now z (rw (t, u) at j) (subst (λ (z : NameOf d). IsNear d g z) (sym (same_row y r f t)) near))
+        (λ u. inv.near_calls y r f k z (rw (t, u) at j) near))
         (λ t. inv.near_calls y r f k z (rw t at j) near))
         (λ y r f k b e u. by_test (d.same_name r.name x)
-        (λ t. by_test (nat_eq i k) (λ z. rw (t, z) (now_is y k b (same_row y r f t) (eqb-true i k z) e)) (λ z. rw (t, z) (inv.clean_calls y r f k b e (rw (t, z) at u))))
+        (λ t. by_test (nat_eq i k) (λ z. rw (t, z) (now_is y k b (same_row y r f t) (eqb-true i k z) e))
+        (λ z. rw (t, z) (inv.clean_calls y r f k b e (rw (t, z) at u))))
         (λ t. rw t (inv.clean_calls y r f k b e (rw t at u))))
         (λ y r f k b e u. by_test (d.same_name r.name x)
         (λ t. by_test (nat_eq i k) (λ z. inl (ap₂ (λ (a : NameOf d) (j : ℕ). Some (a, j)) (same_row y r f t) (eqb-true i k z)))
@@ -182,7 +264,8 @@ module _ (d : Domain) (g : Program d) (laws : IsLawful d g) where
     now_low : UpTo (d.leq x.pred) (answer_now d g rows x i) (stage d g (suc low.0) x.pred x.call)
     now_low = at_clause (item (g.clauses x.pred) i) refl
       where
-        at_clause : (o : Option d.Clause) → item (g.clauses x.pred) i ≡ o → UpTo (d.leq x.pred) (given None (λ c. answer_of d (present_source d rows) c x.call) o) (stage d g (suc low.0) x.pred x.call)
+        at_clause : (o : Option d.Clause) → item (g.clauses x.pred) i ≡ o
+            → UpTo (d.leq x.pred) (given None (λ c. answer_of d (present_source d rows) c x.call) o) (stage d g (suc low.0) x.pred x.call)
         at_clause None e = tt
         at_clause (Some c) e = answer_low d g laws (present_source d rows) low x value c (item_in (g.clauses x.pred) i c e)
 
@@ -230,7 +313,8 @@ module _ (d : Domain) (g : Program d) (laws : IsLawful d g) where
     grow_low : IsFromBelow d g new
     grow_low = (suc inv.low.0, λ p v is. rw (new_is p v) (at_found p v is (find d rows (name_of d p v)) refl))
       where
-        at_found : (p : d.Pred) (v : d.Value) → d.leq p v v → (o : Option (WorkRow d)) → find d rows (name_of d p v) ≡ o → UpTo (d.leq p) (given None (λ r. (grow r).answer) o) (stage d g (suc inv.low.0) p v)
+        at_found : (p : d.Pred) (v : d.Value) → d.leq p v v → (o : Option (WorkRow d)) → find d rows (name_of d p v) ≡ o
+            → UpTo (d.leq p) (given None (λ r. (grow r).answer) o) (stage d g (suc inv.low.0) p v)
         at_found p v is None f = tt
         at_found p v is (Some r) f =
             by_test (d.same_name r.name x)
@@ -248,22 +332,26 @@ module _ (d : Domain) (g : Program d) (laws : IsLawful d g) where
         by_test (d.same_name r.name x)
         (λ t. rw t (subst (λ (z : NameOf d). UpTo (d.leq y.pred) r.answer (next_answer d g rows z i)) (sym (same_row' y r f t))
         (subst (λ (o : Option (WorkRow d)). UpTo (d.leq y.pred) (given None (λ q. q.answer) o) (next_answer d g rows y i)) f (next_first rows inv.low y is i))))
-        (λ t. rw t (subst (λ (o : Option (WorkRow d)). UpTo (d.leq y.pred) (given None (λ q. q.answer) o) (given None (λ q. q.answer) o)) f (present_value rows inv.low y is i)))
+        (λ t. rw t (subst (λ (o : Option (WorkRow d)). UpTo (d.leq y.pred) (given None (λ q. q.answer) o) (given None (λ q. q.answer) o)) f
+        (present_value rows inv.low y is i)))
 
     -- the evaluation that was last lies at or below the grown answer
-    grow_last : (y : NameOf d) (r : WorkRow d) → find d rows y ≡ Some r → (k : ℕ) (c : d.Clause) → item (g.clauses y.pred) k ≡ Some c → IsExcepted d (Some (x, i)) y k → UpTo (d.leq y.pred) (answer_of d (present_source d rows) c y.call) (grow r).answer
+    grow_last : (y : NameOf d) (r : WorkRow d) → find d rows y ≡ Some r → (k : ℕ) (c : d.Clause) → item (g.clauses y.pred) k ≡ Some c
+        → IsExcepted d (Some (x, i)) y k → UpTo (d.leq y.pred) (answer_of d (present_source d rows) c y.call) (grow r).answer
     grow_last y r f k c e l =
         let ex : x ≡ y = ap (given x (λ (p : NameOf d × ℕ). p.0)) l in
         let ei : i ≡ k = ap (given i (λ (p : NameOf d × ℕ). p.1)) l in
         let t : d.same_name r.name x ≡ true = rw (find_name d g laws rows y r f, ex) (laws.same_refl y) in
         let h : UpTo (d.leq y.pred) (answer_now d g rows y k) (next_answer d g rows y k) = next_second rows inv.low y (inv.value_names y r f) k in
         let b : UpTo (d.leq y.pred) (answer_of d (present_source d rows) c y.call) (next_answer d g rows y k) =
-        subst (λ (o : Option d.Clause). UpTo (d.leq y.pred) (given None (λ c. answer_of d (present_source d rows) c y.call) o) (next_answer d g rows y k)) e h in
+        subst (λ (o : Option d.Clause). UpTo (d.leq y.pred) (given None (λ c. answer_of d (present_source d rows) c y.call) o)
+        (next_answer d g rows y k)) e h in
         let n : next_answer d g rows y k ≡ next_answer d g rows x i = sym (ap₂ (λ (z : NameOf d) (j : ℕ). next_answer d g rows z j) ex ei) in
         rw t (subst (λ (o : Option d.Value). UpTo (d.leq y.pred) (answer_of d (present_source d rows) c y.call) o) n b)
 
     -- a pair that stays clean calls no name whose answer grew
-    pub grow_agrees : (y : NameOf d) (q : WorkRow d) → find d rows y ≡ Some q → (k : ℕ) (c : d.Clause) → item (g.clauses y.pred) k ≡ Some c → q.dirty k ≡ false → mentions d x (q.calls k) ≡ false → Agree d new (present_source d rows) (calls_of d (present_source d rows) c y.call)
+    pub grow_agrees : (y : NameOf d) (q : WorkRow d) → find d rows y ≡ Some q → (k : ℕ) (c : d.Clause) → item (g.clauses y.pred) k ≡ Some c
+        → q.dirty k ≡ false → mentions d x (q.calls k) ≡ false → Agree d new (present_source d rows) (calls_of d (present_source d rows) c y.call)
     grow_agrees y q f k c t dirty m p v j =
         other (name_of d p v) (not_mentioned d g laws x (q.calls k) (name_of d p v) m
         (subst (λ (ns : List (NameOf d)). IsIn (name_of d p v) ns) (sym (inv.clean_calls y q f k c t dirty)) j))
@@ -286,7 +374,9 @@ module _ (d : Domain) (g : Program d) (laws : IsLawful d g) where
               (covered y q f k c t (inv.clean_answers y q f k c t dirty)))));
         }
       where
-        covered : (y : NameOf d) (q : WorkRow d) → find d rows y ≡ Some q → (k : ℕ) (c : d.Clause) → item (g.clauses y.pred) k ≡ Some c → IsExcepted d (Some (x, i)) y k ⊎ UpTo (d.leq y.pred) (answer_of d (present_source d rows) c y.call) q.answer → UpTo (d.leq y.pred) (answer_of d (present_source d rows) c y.call) (grow q).answer
+        covered : (y : NameOf d) (q : WorkRow d) → find d rows y ≡ Some q → (k : ℕ) (c : d.Clause) → item (g.clauses y.pred) k ≡ Some c
+            → IsExcepted d (Some (x, i)) y k ⊎ UpTo (d.leq y.pred) (answer_of d (present_source d rows) c y.call) q.answer
+            → UpTo (d.leq y.pred) (answer_of d (present_source d rows) c y.call) (grow q).answer
         covered y q f k c t (inl l) = grow_last y q f k c t l
         covered y q f k c t (inr h) = trans_at d g laws y.pred (answer_of d (present_source d rows) c y.call) q.answer (grow q).answer h (grow_above y q f)
 
@@ -299,7 +389,8 @@ module _ (d : Domain) (g : Program d) (laws : IsLawful d g) where
       subst (λ (o : Option d.Value). Inv d g (map (after_growing d x o) w.rows) None) (sym is)
       (grew w.rows x i (subst (λ (o : Option (NameOf d × ℕ)). Inv d g w.rows o) l inv))
 
-  pub log_keeps : (limit : ℕ) (w : Work d) (es : List (LogEntry d)) → Inv d g w.rows w.last → IsLegalLog d g limit w es → Inv d g (after_all d g w es).rows (after_all d g w es).last
+  pub log_keeps : (limit : ℕ) (w : Work d) (es : List (LogEntry d)) → Inv d g w.rows w.last → IsLegalLog d g limit w es
+      → Inv d g (after_all d g w es).rows (after_all d g w es).last
   log_keeps limit w [] inv legal = inv
   log_keeps limit w (e ∷ es) inv legal = log_keeps limit (after d g w e) es (step limit w e inv legal.0) legal.1
 
@@ -328,8 +419,12 @@ module _ (d : Domain) (g : Program d) (laws : IsLawful d g) where
     needed_reached (Then {x = x} m n rec) =
         let (k, r) = needed_reached n in
         let e : rec.row.calls rec.number ≡ calls_of d (present_source d w.rows) rec.clause m.call =
-        done.clean_calls m rec.row rec.there rec.number rec.clause rec.is_clause (end.clean m rec.row rec.there rec.is_live rec.number rec.clause rec.is_clause) in
-        (suc k, ByCall m rec.clause r (item_in (g.clauses m.pred) rec.number rec.clause rec.is_clause) (subst (λ (ns : List (NameOf d)). IsIn x ns) e rec.names))
+        done.clean_calls m rec.row rec.there rec.number
+        rec.clause rec.is_clause (end.clean m rec.row rec.there rec.is_live rec.number rec.clause rec.is_clause) in (
+          suc k,
+          ByCall m rec.clause r (item_in (g.clauses m.pred) rec.number rec.clause rec.is_clause)
+              (subst (λ (ns : List (NameOf d)). IsIn x ns) e rec.names),
+        )
 
     pub reached_needed : {k : ℕ} {x : NameOf d} → Reaches d g (present_source d w.rows) k x → IsNeeded d g w.rows x
     reached_needed (AtEntry i) = First i
@@ -365,9 +460,11 @@ module _ (d : Domain) (g : Program d) (laws : IsLawful d g) where
         })
 
   -- Theorem: every legal log that opens with no rows and ends has the least table as its result, whatever its order.
-  pub legal_log_least : (limit : ℕ) (es : List (LogEntry d)) → IsLegalLog d g limit (no_work d) es → IsEnd d g (after_all d g (no_work d) es) → (before : Order d) (rows : List (Row d)) → IsLogResult d g before (after_all d g (no_work d) es) rows → IsLeastTable d g before rows
+  pub legal_log_least : (limit : ℕ) (es : List (LogEntry d)) → IsLegalLog d g limit (no_work d) es → IsEnd d g (after_all d g (no_work d) es)
+      → (before : Order d) (rows : List (Row d)) → IsLogResult d g before (after_all d g (no_work d) es) rows → IsLeastTable d g before rows
   legal_log_least limit es legal end = outcome_least (after_all d g (no_work d) es) (log_keeps limit (no_work d) es empty legal) end
 
   -- a growth is strict, so that a rank gets smaller
-  pub due_strict : (w : Work d) (x : NameOf d) (a : Option d.Value) → Inv d g w.rows w.last → d.leq x.pred x.call x.call → IsDue d g w x a → UpTo (d.leq x.pred) (present_source d w.rows x.pred x.call) a × (a ≢ present_source d w.rows x.pred x.call)
+  pub due_strict : (w : Work d) (x : NameOf d) (a : Option d.Value) → Inv d g w.rows w.last → d.leq x.pred x.call x.call → IsDue d g w x a
+      → UpTo (d.leq x.pred) (present_source d w.rows x.pred x.call) a × (a ≢ present_source d w.rows x.pred x.call)
   due_strict w x a inv value (i, l, is, grows) = (rw is (next_first w.rows inv.low x value i), grows)

@@ -20,7 +20,8 @@ UpTo-left R t (Some x) None h = absurd h
 UpTo-left R t (Some x) (Some y) h = t x y h
 
 -- two bound options lie in order where what they are bound to does
-pub given_up_to : {A B : Type 0} (R : A → A → Type 0) (Q : B → B → Type 0) (a b : Option A) (f g : A → Option B) → UpTo R a b → ((x y : A) → a ≡ Some x → b ≡ Some y → R x y → UpTo Q (f x) (g y)) → UpTo Q (given None f a) (given None g b)
+pub given_up_to : {A B : Type 0} (R : A → A → Type 0) (Q : B → B → Type 0) (a b : Option A) (f g : A → Option B) → UpTo R a b
+    → ((x y : A) → a ≡ Some x → b ≡ Some y → R x y → UpTo Q (f x) (g y)) → UpTo Q (given None f a) (given None g b)
 given_up_to R Q None b f g h k = tt
 given_up_to R Q (Some x) None f g h k = absurd h
 given_up_to R Q (Some x) (Some y) f g h k = k x y refl refl h

@@ -32,21 +32,24 @@ module _ (d : Domain) (g : Program d) (laws : IsLawful d g) where
         by_test (d.same_name q.name x) (λ t. let u : d.same_name (f q).name x ≡ true = k ∙ t in rw (u, t) refl)
         (λ t. let u : d.same_name (f q).name x ≡ false = k ∙ t in rw (u, t) (find_map rows x))
 
-    pub by_map : (P : WorkRow d → Type 0) (rows : List (WorkRow d)) (x : NameOf d) (r : WorkRow d) → find d (map f rows) x ≡ Some r → ((q : WorkRow d) → find d rows x ≡ Some q → P (f q)) → P r
+    pub by_map : (P : WorkRow d → Type 0) (rows : List (WorkRow d)) (x : NameOf d) (r : WorkRow d) → find d (map f rows) x ≡ Some r
+        → ((q : WorkRow d) → find d rows x ≡ Some q → P (f q)) → P r
     by_map P rows x r e h = at_found (find d rows x) (sym (find_map rows x) ∙ e) h
       where
         at_found : (o : Option (WorkRow d)) → given None (λ r. Some (f r)) o ≡ Some r → ((q : WorkRow d) → o ≡ Some q → P (f q)) → P r
         at_found None k h = cc
         at_found (Some q) k h = let s : f q ≡ r = cc in subst P s (h q refl)
 
-    pub present_map : (rows : List (WorkRow d)) (p : d.Pred) (v : d.Value) → present_source d (map f rows) p v ≡ given None (λ r. (f r).answer) (find d rows (name_of d p v))
+    pub present_map : (rows : List (WorkRow d)) (p : d.Pred) (v : d.Value)
+        → present_source d (map f rows) p v ≡ given None (λ r. (f r).answer) (find d rows (name_of d p v))
     present_map rows p v = rw (find_map rows (name_of d p v)) (of_found (find d rows (name_of d p v)))
       where
         of_found : (o : Option (WorkRow d)) → given None (λ r. r.answer) (given None (λ r. Some (f r)) o) ≡ given None (λ r. (f r).answer) o
         of_found None = refl
         of_found (Some q) = refl
 
-  pub find_push : (rows : List (WorkRow d)) (r : WorkRow d) (x : NameOf d) → find d (rows ++ r ∷ []) x ≡ given (cond (d.same_name r.name x) (Some r) None) Some (find d rows x)
+  pub find_push : (rows : List (WorkRow d)) (r : WorkRow d) (x : NameOf d)
+      → find d (rows ++ r ∷ []) x ≡ given (cond (d.same_name r.name x) (Some r) None) Some (find d rows x)
   find_push [] r x = refl
   find_push (q ∷ rows) r x = by_test (d.same_name q.name x) (λ t. rw t refl) (λ t. rw t (find_push rows r x))
 

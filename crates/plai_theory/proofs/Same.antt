@@ -28,7 +28,8 @@ module _ (d : Domain) (before : Order d) (order : IsStrictOrder d before) where
       absurd (order.irrefl r.name (subst (λ (z : Row d). before z.name r.name) (e ∙ f) (ox.0 r i)))
   rest_in x y r xs ys ox e i (inr j) = j
 
-  pub same_ordered : (xs ys : List (Row d)) → IsOrdered d before xs → IsOrdered d before ys → ((r : Row d) → IsIn r xs → IsIn r ys) → ((r : Row d) → IsIn r ys → IsIn r xs) → xs ≡ ys
+  pub same_ordered : (xs ys : List (Row d)) → IsOrdered d before xs → IsOrdered d before ys → ((r : Row d) → IsIn r xs → IsIn r ys)
+      → ((r : Row d) → IsIn r ys → IsIn r xs) → xs ≡ ys
   same_ordered [] [] ox oy up down = refl
   same_ordered [] (y ∷ ys) ox oy up down = absurd (down y (inl refl))
   same_ordered (x ∷ xs) [] ox oy up down = absurd (up x (inl refl))
@@ -43,7 +44,8 @@ row_path : (d : Domain) (r q : Row d) → r.name ≡ q.name → r.answer ≡ q.a
 row_path d r q e f = λ i. record { name = e i; answer = f i }
 
 -- a row of one list is in the other
-row_of_other : (d : Domain) (g : Program d) (before : Order d) (n : ℕ) (rows others : List (Row d)) → IsSnapshot d g before n rows → IsSnapshot d g before n others → (r : Row d) → IsIn r rows → IsIn r others
+row_of_other : (d : Domain) (g : Program d) (before : Order d) (n : ℕ) (rows others : List (Row d)) → IsSnapshot d g before n rows
+    → IsSnapshot d g before n others → (r : Row d) → IsIn r rows → IsIn r others
 row_of_other d g before n rows others a b r i =
     let (reach, is) = a.sound r i in
     let (q, j, e) = b.whole r.name reach in
@@ -51,17 +53,20 @@ row_of_other d g before n rows others a b r i =
     subst (λ (z : Row d). IsIn z others) (row_path d q r e f) j
 
 -- there is at most one snapshot
-pub snap_unique : (d : Domain) (g : Program d) (before : Order d) → IsStrictOrder d before → (n : ℕ) (rows others : List (Row d)) → IsSnapshot d g before n rows → IsSnapshot d g before n others → rows ≡ others
+pub snap_unique : (d : Domain) (g : Program d) (before : Order d) → IsStrictOrder d before → (n : ℕ) (rows others : List (Row d))
+    → IsSnapshot d g before n rows → IsSnapshot d g before n others → rows ≡ others
 snap_unique d g before order n rows others here there =
     same_ordered d before order rows others here.ordered there.ordered
     (row_of_other d g before n rows others here there) (row_of_other d g before n others rows there here)
 
 -- Theorem: there is at most one least table.
-pub least_unique : (d : Domain) (g : Program d) (before : Order d) → IsStrictOrder d before → (rows others : List (Row d)) → IsLeastTable d g before rows → IsLeastTable d g before others → rows ≡ others
+pub least_unique : (d : Domain) (g : Program d) (before : Order d) → IsStrictOrder d before → (rows others : List (Row d)) → IsLeastTable d g before rows
+    → IsLeastTable d g before others → rows ≡ others
 least_unique d g before order rows others (N, a) (M, b) =
     snap_unique d g before order (N + M) rows others (a (N + M) (omega arith)) (b (N + M) (omega arith))
 
-module _ (d : Domain) (g : Program d) (laws : IsLawful d g) (before : Order d) (order : IsStrictOrder d before) (rows : List (Row d)) (N : ℕ) (least : (n : ℕ) → N ≤ n → IsSnapshot d g before n rows) where
+module _ (d : Domain) (g : Program d) (laws : IsLawful d g) (before : Order d) (order : IsStrictOrder d before) (rows : List (Row d)) (N : ℕ)
+    (least : (n : ℕ) → N ≤ n → IsSnapshot d g before n rows) where
   pub distinct : IsDistinct d rows
   distinct = distinct_from_ordered d before order rows (least N (omega arith)).ordered
 
@@ -82,12 +87,14 @@ module _ (d : Domain) (g : Program d) (laws : IsLawful d g) (before : Order d) (
       j)
 
   -- what a row's clauses call at the next stage are rows
-  calls_rows : (r : Row d) → IsIn r rows → (c : d.Clause) → IsIn c (g.clauses r.name.pred) → (x : NameOf d) → IsIn x (calls_of d (stage d g (suc N)) c r.name.call) → HasName d rows x
+  calls_rows : (r : Row d) → IsIn r rows → (c : d.Clause) → IsIn c (g.clauses r.name.pred) → (x : NameOf d)
+      → IsIn x (calls_of d (stage d g (suc N)) c r.name.call) → HasName d rows x
   calls_rows r i c j x k =
       (least (suc N) (omega arith)).whole x
       (ByCall r.name c (reach_later (suc N) (omega arith) (omega arith) ((least N (omega arith)).sound r i).0) j k)
 
-  agree : (r : Row d) → IsIn r rows → (c : d.Clause) → IsIn c (g.clauses r.name.pred) → Agree d (source_of d rows) (stage d g (suc N)) (calls_of d (stage d g (suc N)) c r.name.call)
+  agree : (r : Row d) → IsIn r rows → (c : d.Clause) → IsIn c (g.clauses r.name.pred)
+      → Agree d (source_of d rows) (stage d g (suc N)) (calls_of d (stage d g (suc N)) c r.name.call)
   agree r i c j p v k = sym (stage_at (suc N) (omega arith) (name_of d p v) (calls_rows r i c j (name_of d p v) k))
 
   -- Theorem: the least table is closed.
@@ -101,7 +108,8 @@ module _ (d : Domain) (g : Program d) (laws : IsLawful d g) (before : Order d) (
         let value : d.leq r.name.pred r.name.call r.name.call =
         reached_value d g laws (stage d g N) (N, λ p v is. stage_le d g laws N N (omega arith) p v v is) N r.name ((least N (omega arith)).sound r i).0 in
         rw (same_answer d (source_of d rows) (stage d g (suc N)) c r.name.call (agree r i c j), ((least (suc (suc N)) (omega arith)).sound r i).1)
-        (below_next d g laws (stage d g (suc N)) (suc N) (λ p v is. stage_le d g laws (suc N) (suc N) (omega arith) p v v is) r.name.pred r.name.call value c j);
+        (below_next d g laws (stage d g (suc N)) (suc N) (λ p v is. stage_le d g laws (suc N) (suc N) (omega arith) p v v is) r.name.pred
+        r.name.call value c j);
   }
 
   -- each name of the table is a value

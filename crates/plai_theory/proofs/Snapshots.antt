@@ -36,28 +36,36 @@ in_map f (y ∷ xs) x (inr i) = inr (in_map f xs x i)
 module _ (d : Domain) (g : Program d) (s : Source d) where
   in_calls_by : (cs : List d.Clause) (v : d.Value) (x : NameOf d) (c : d.Clause) → IsIn c cs → IsIn x (calls_of d s c v) → IsIn x (calls_of_clauses d s cs v)
   in_calls_by [] v x c i j = absurd i
-  in_calls_by (b ∷ cs) v x c (inl e) j = in_left (calls_of d s b v) (calls_of_clauses d s cs v) x (subst (λ (a : d.Clause). IsIn x (calls_of d s a v)) (sym e) j)
+  in_calls_by (b ∷ cs) v x c (inl e) j = in_left (calls_of d s b v) (calls_of_clauses d s cs v) x
+      (subst (λ (a : d.Clause). IsIn x (calls_of d s a v)) (sym e) j)
   in_calls_by (b ∷ cs) v x c (inr i) j = in_right (calls_of d s b v) (calls_of_clauses d s cs v) x (in_calls_by cs v x c i j)
 
   of_calls_by : (cs : List d.Clause) (v : d.Value) (x : NameOf d) → IsIn x (calls_of_clauses d s cs v) → (c : d.Clause) × IsIn c cs × IsIn x (calls_of d s c v)
   of_calls_by [] v x i = absurd i
   of_calls_by (b ∷ cs) v x i = at (in_either (calls_of d s b v) (calls_of_clauses d s cs v) x i) (of_calls_by cs v x)
     where
-      at : IsIn x (calls_of d s b v) ⊎ IsIn x (calls_of_clauses d s cs v) → (IsIn x (calls_of_clauses d s cs v) → (c : d.Clause) × IsIn c cs × IsIn x (calls_of d s c v)) → (c : d.Clause) × IsIn c (b ∷ cs) × IsIn x (calls_of d s c v)
+      at : IsIn x (calls_of d s b v) ⊎ IsIn x (calls_of_clauses d s cs v)
+          → (IsIn x (calls_of_clauses d s cs v) → (c : d.Clause) × IsIn c cs × IsIn x (calls_of d s c v))
+          → (c : d.Clause) × IsIn c (b ∷ cs) × IsIn x (calls_of d s c v)
       at (inl j) k = (b, inl refl, j)
       at (inr j) k = let (c, l, m) = k j in (c, inr l, m)
 
-  in_calls_of : (names : List (NameOf d)) (m x : NameOf d) → IsIn m names → IsIn x (calls_of_clauses d s (g.clauses m.pred) m.call) → IsIn x (calls_of_names d g s names)
+  in_calls_of : (names : List (NameOf d)) (m x : NameOf d) → IsIn m names → IsIn x (calls_of_clauses d s (g.clauses m.pred) m.call)
+      → IsIn x (calls_of_names d g s names)
   in_calls_of [] m x i j = absurd i
   in_calls_of (y ∷ names) m x (inl e) j =
-      in_left (calls_of_clauses d s (g.clauses y.pred) y.call) (calls_of_names d g s names) x (subst (λ (a : NameOf d). IsIn x (calls_of_clauses d s (g.clauses a.pred) a.call)) (sym e) j)
+      in_left (calls_of_clauses d s (g.clauses y.pred) y.call) (calls_of_names d g s names) x
+      (subst (λ (a : NameOf d). IsIn x (calls_of_clauses d s (g.clauses a.pred) a.call)) (sym e) j)
   in_calls_of (y ∷ names) m x (inr i) j = in_right (calls_of_clauses d s (g.clauses y.pred) y.call) (calls_of_names d g s names) x (in_calls_of names m x i j)
 
-  of_calls_of : (names : List (NameOf d)) (x : NameOf d) → IsIn x (calls_of_names d g s names) → (m : NameOf d) × IsIn m names × IsIn x (calls_of_clauses d s (g.clauses m.pred) m.call)
+  of_calls_of : (names : List (NameOf d)) (x : NameOf d) → IsIn x (calls_of_names d g s names)
+      → (m : NameOf d) × IsIn m names × IsIn x (calls_of_clauses d s (g.clauses m.pred) m.call)
   of_calls_of [] x i = absurd i
   of_calls_of (y ∷ names) x i = at (in_either (calls_of_clauses d s (g.clauses y.pred) y.call) (calls_of_names d g s names) x i) (of_calls_of names x)
     where
-      at : IsIn x (calls_of_clauses d s (g.clauses y.pred) y.call) ⊎ IsIn x (calls_of_names d g s names) → (IsIn x (calls_of_names d g s names) → (m : NameOf d) × IsIn m names × IsIn x (calls_of_clauses d s (g.clauses m.pred) m.call)) → (m : NameOf d) × IsIn m (y ∷ names) × IsIn x (calls_of_clauses d s (g.clauses m.pred) m.call)
+      at : IsIn x (calls_of_clauses d s (g.clauses y.pred) y.call) ⊎ IsIn x (calls_of_names d g s names)
+          → (IsIn x (calls_of_names d g s names) → (m : NameOf d) × IsIn m names × IsIn x (calls_of_clauses d s (g.clauses m.pred) m.call))
+          → (m : NameOf d) × IsIn m (y ∷ names) × IsIn x (calls_of_clauses d s (g.clauses m.pred) m.call)
       at (inl j) k = (y, inl refl, j)
       at (inr j) k = let (m, l, n) = k j in (m, inr l, n)
 
@@ -66,13 +74,15 @@ module _ (d : Domain) (g : Program d) (s : Source d) where
   reach_in (AtEntry {n = zero} i) = i
   reach_in (AtEntry {n = suc n} {x = x} i) = in_left g.entries (calls_of_names d g s (reach_list d g s n)) x i
   reach_in (ByCall {n = n} {x = x} m c r i j) =
-      in_right g.entries (calls_of_names d g s (reach_list d g s n)) x (in_calls_of (reach_list d g s n) m x (reach_in r) (in_calls_by (g.clauses m.pred) m.call x c i j))
+      in_right g.entries (calls_of_names d g s (reach_list d g s n)) x
+      (in_calls_of (reach_list d g s n) m x (reach_in r) (in_calls_by (g.clauses m.pred) m.call x c i j))
 
   pub in_reach : (k : ℕ) (x : NameOf d) → IsIn x (reach_list d g s k) → Reaches d g s k x
   in_reach zero x i = AtEntry i
   in_reach (suc n) x i = at (in_either g.entries (calls_of_names d g s (reach_list d g s n)) x i) (in_reach n)
     where
-      at : IsIn x g.entries ⊎ IsIn x (calls_of_names d g s (reach_list d g s n)) → ((y : NameOf d) → IsIn y (reach_list d g s n) → Reaches d g s n y) → Reaches d g s (suc n) x
+      at : IsIn x g.entries ⊎ IsIn x (calls_of_names d g s (reach_list d g s n)) → ((y : NameOf d) → IsIn y (reach_list d g s n) → Reaches d g s n y)
+          → Reaches d g s (suc n) x
       at (inl j) k = AtEntry j
       at (inr j) k =
           let (m, l, h) = of_calls_of (reach_list d g s n) x j in
@@ -168,9 +178,15 @@ module _ (d : Domain) (is_before : NameOf d → NameOf d → Bool) (test : IsTot
       let names : List (NameOf d) = in_order d is_before (reach_list d g (stage d g n) n) in
       record {
         ordered = rows_ordered (stage d g n) (in_order d is_before (reach_list d g (stage d g n) n)) (order_ordered (reach_list d g (stage d g n) n));
-        sound = λ r i. map_in (λ (r : Row d). Reaches d g (stage d g n) n r.name × (r.answer ≡ stage d g n r.name.pred r.name.call)) (row_at d (stage d g n)) (in_order d is_before (reach_list d g (stage d g n) n)) r i
+        sound = λ r i. map_in (λ (r : Row d). Reaches d g (stage d g n) n r.name × (r.answer ≡ stage d g n r.name.pred r.name.call)) (row_at d (stage d g n))
+            (in_order d is_before (reach_list d g (stage d g n) n)) r i
             (λ x j. (in_reach d g (stage d g n) n x (order_in (reach_list d g (stage d g n) n) x j), refl));
-        whole = λ x r. (row_at d (stage d g n) x, in_map (row_at d (stage d g n)) (in_order d is_before (reach_list d g (stage d g n) n)) x (in_ordered (reach_list d g (stage d g n) n) x (reach_in d g (stage d g n) r)), refl);
+        whole = λ x r. (
+          row_at d (stage d g n) x,
+          in_map (row_at d (stage d g n)) (in_order d is_before (reach_list d g (stage d g n) n)) x
+              (in_ordered (reach_list d g (stage d g n) n) x (reach_in d g (stage d g n) r)),
+          refl,
+        );
       }
 
   -- Theorem: the least table is the list that the computed snapshots settle to.

@@ -38,13 +38,15 @@ module _ (d : Domain) (g : Program d) (laws : IsLawful d g) (p : d.Pred) where
   joined_least (Some a) (Some b) (Some c) h k = laws.join_least h k
 
   -- the join of the answers of clauses is their least upper bound
-  pub best_least : (s : Source d) (cs : List d.Clause) (v : d.Value) (top : Option d.Value) → ((c : d.Clause) → IsIn c cs → UpTo (d.leq p) (answer_of d s c v) top) → UpTo (d.leq p) (best_of d s cs v) top
+  pub best_least : (s : Source d) (cs : List d.Clause) (v : d.Value) (top : Option d.Value)
+      → ((c : d.Clause) → IsIn c cs → UpTo (d.leq p) (answer_of d s c v) top) → UpTo (d.leq p) (best_of d s cs v) top
   unfolding best_of
   best_least s [] v top h = tt
   best_least s (c ∷ cs) v top h =
       joined_least (answer_of d s c v) (best_of d s cs v) top (h c (inl refl)) (best_least s cs v top (λ x i. h x (inr i)))
 
-  best_is : (s : Source d) (cs : List d.Clause) (v : d.Value) → ((c : d.Clause) → IsIn c cs → UpTo (d.leq p) (answer_of d s c v) (answer_of d s c v)) → UpTo (d.leq p) (best_of d s cs v) (best_of d s cs v)
+  best_is : (s : Source d) (cs : List d.Clause) (v : d.Value) → ((c : d.Clause) → IsIn c cs → UpTo (d.leq p) (answer_of d s c v) (answer_of d s c v))
+      → UpTo (d.leq p) (best_of d s cs v) (best_of d s cs v)
   unfolding best_of
   best_is s [] v h = tt
   best_is s (c ∷ cs) v h =
@@ -53,7 +55,8 @@ module _ (d : Domain) (g : Program d) (laws : IsLawful d g) (p : d.Pred) where
       (joined_least (answer_of d s c v) (best_of d s cs v) _ (joined_first (answer_of d s c v) (best_of d s cs v) (h c (inl refl)) rest)
       (joined_second (answer_of d s c v) (best_of d s cs v) (h c (inl refl)) rest))
 
-  pub best_above : (s : Source d) (cs : List d.Clause) (v : d.Value) → ((c : d.Clause) → IsIn c cs → UpTo (d.leq p) (answer_of d s c v) (answer_of d s c v)) → (c : d.Clause) → IsIn c cs → UpTo (d.leq p) (answer_of d s c v) (best_of d s cs v)
+  pub best_above : (s : Source d) (cs : List d.Clause) (v : d.Value) → ((c : d.Clause) → IsIn c cs → UpTo (d.leq p) (answer_of d s c v) (answer_of d s c v))
+      → (c : d.Clause) → IsIn c cs → UpTo (d.leq p) (answer_of d s c v) (best_of d s cs v)
   unfolding best_of
   best_above s [] v h c i = absurd i
   best_above s (b ∷ cs) v h c (inl e) =
@@ -78,7 +81,8 @@ module _ (d : Domain) (g : Program d) (laws : IsLawful d g) where
 
   -- One evaluation more, from a source that lies at or below a stage.
   -- What the theory asks of a source: it lies at or below the stage n.
-  pub below_next : (s : Source d) (n : ℕ) (low : (p : d.Pred) (v : d.Value) → d.leq p v v → UpTo (d.leq p) (s p v) (stage d g n p v)) → (p : d.Pred) (v : d.Value) → d.leq p v v → (c : d.Clause) → IsIn c (g.clauses p) → UpTo (d.leq p) (answer_of d s c v) (stage d g (suc n) p v)
+  pub below_next : (s : Source d) (n : ℕ) (low : (p : d.Pred) (v : d.Value) → d.leq p v v → UpTo (d.leq p) (s p v) (stage d g n p v))
+      → (p : d.Pred) (v : d.Value) → d.leq p v v → (c : d.Clause) → IsIn c (g.clauses p) → UpTo (d.leq p) (answer_of d s c v) (stage d g (suc n) p v)
   unfolding stage
   below_next s n low p v is c i =
       trans_at d g laws p (answer_of d s c v) (answer_of d (stage d g n) c v) (stage d g (suc n) p v)
@@ -89,7 +93,8 @@ module _ (d : Domain) (g : Program d) (laws : IsLawful d g) where
 
 -- Names that a source is closed at: what is called from them is among them, and what is answered lies at or below the source.
 pub record IsClosedAt (d : Domain) (g : Program d) (s : Source d) (In : d.Pred → d.Value → Type 0) : Type 0 where
-  pub calls_in : (p : d.Pred) (v : d.Value) → In p v → (c : d.Clause) → IsIn c (g.clauses p) → (q : d.Pred) (x : d.Value) → IsIn (name_of d q x) (calls_of d s c v) → In q x
+  pub calls_in : (p : d.Pred) (v : d.Value) → In p v → (c : d.Clause) → IsIn c (g.clauses p) → (q : d.Pred) (x : d.Value)
+      → IsIn (name_of d q x) (calls_of d s c v) → In q x
   pub answers : (p : d.Pred) (v : d.Value) → In p v → (c : d.Clause) → IsIn c (g.clauses p) → UpTo (d.leq p) (answer_of d s c v) (s p v)
 
 module _ (d : Domain) (g : Program d) (laws : IsLawful d g) (s : Source d) (In : d.Pred → d.Value → Type 0) (closed : IsClosedAt d g s In) where
@@ -105,7 +110,10 @@ module _ (d : Domain) (g : Program d) (laws : IsLawful d g) (s : Source d) (In :
 
 -- What a lower source reaches lies below what the upper one is closed at.
 module _ (d : Domain) (g : Program d) (laws : IsLawful d g) (s t : Source d) (In : d.Pred → d.Value → Type 0) where
-  pub reach_below : (calls_in : (p : d.Pred) (v : d.Value) → In p v → (c : d.Clause) → IsIn c (g.clauses p) → (q : d.Pred) (x : d.Value) → IsIn (name_of d q x) (calls_of d t c v) → In q x) → (from : (p : d.Pred) (v : d.Value) → IsIn (name_of d p v) g.entries → In p v) → (under : (p : d.Pred) (v w : d.Value) → In p w → d.leq p v w → UpTo (d.leq p) (s p v) (t p w)) → {k : ℕ} {x : NameOf d} → Reaches d g s k x → (w : d.Value) × In x.pred w × d.leq x.pred x.call w
+  pub reach_below : (calls_in : (p : d.Pred) (v : d.Value) → In p v → (c : d.Clause) → IsIn c (g.clauses p) → (q : d.Pred) (x : d.Value)
+      → IsIn (name_of d q x) (calls_of d t c v) → In q x) → (from : (p : d.Pred) (v : d.Value) → IsIn (name_of d p v) g.entries → In p v)
+      → (under : (p : d.Pred) (v w : d.Value) → In p w → d.leq p v w → UpTo (d.leq p) (s p v) (t p w)) → {k : ℕ} {x : NameOf d} → Reaches d g s k x
+      → (w : d.Value) × In x.pred w × d.leq x.pred x.call w
   reach_below calls_in from under (AtEntry {x = x} i) = (x.call, from x.pred x.call i, laws.entries x.pred x.call i)
   reach_below calls_in from under (ByCall {x = x} m c r i j) =
       let (w, in_w, le) = reach_below calls_in from under r in
@@ -117,7 +125,8 @@ module _ (d : Domain) (g : Program d) (s t : Source d) (same : (k : ℕ) (x : Na
   pub reach_to : {k : ℕ} {x : NameOf d} → Reaches d g t k x → Reaches d g s k x
   reach_to (AtEntry i) = AtEntry i
   reach_to (ByCall {x = x} m c r i j) =
-      ByCall m c (reach_to r) i (subst (λ (ns : List (NameOf d)). IsIn x ns) (sym (same_called d s t c m.call (λ q u k. same _ (name_of d q u) (ByCall m c r i k)))) j)
+      ByCall m c (reach_to r) i (subst (λ (ns : List (NameOf d)). IsIn x ns)
+      (sym (same_called d s t c m.call (λ q u k. same _ (name_of d q u) (ByCall m c r i k)))) j)
 
   pub reach_from : {k : ℕ} {x : NameOf d} → Reaches d g s k x → Reaches d g t k x
   reach_from (AtEntry i) = AtEntry i

@@ -18,7 +18,8 @@ module _ (d : Domain) (g : Program d) (laws : IsLawful d g) where
   lookup_row (q ∷ rows) dis r (inr i) =
       by_test (d.same_name q.name r.name) (λ e. absurd (dis.0 r i (laws.same_true q.name r.name e))) (λ e. rw e (lookup_row rows dis.1 r i))
 
-  pub lookup_name : (rows : List (Row d)) → IsDistinct d rows → (x : NameOf d) (r : Row d) → IsIn r rows → r.name ≡ x → source_of d rows x.pred x.call ≡ r.answer
+  pub lookup_name : (rows : List (Row d)) → IsDistinct d rows → (x : NameOf d) (r : Row d) → IsIn r rows → r.name ≡ x
+      → source_of d rows x.pred x.call ≡ r.answer
   lookup_name rows dis x r i e = subst (λ (y : NameOf d). source_of d rows y.pred y.call ≡ r.answer) e (lookup_row rows dis r i)
 
 module _ (d : Domain) (g : Program d) (laws : IsLawful d g) (rows : List (Row d)) (closed : IsClosed d g rows) where
@@ -29,11 +30,13 @@ module _ (d : Domain) (g : Program d) (laws : IsLawful d g) (rows : List (Row d)
         (subst (λ (y : NameOf d). IsIn (name_of d q x) (calls_of d (source_of d rows) c y.call)) (sym e) k);
     answers = λ p v (r, i, e) c j.
         rw (lookup_name d g laws rows closed.distinct (name_of d p v) r i e)
-        (subst (λ (y : NameOf d). IsIn c (g.clauses y.pred) → UpTo (d.leq y.pred) (answer_of d (source_of d rows) c y.call) r.answer) e (closed.answers r i c) j);
+        (subst (λ (y : NameOf d). IsIn c (g.clauses y.pred) → UpTo (d.leq y.pred) (answer_of d (source_of d rows) c y.call) r.answer) e
+        (closed.answers r i c) j);
   }
 
   -- Theorem: each stage of each name at or below a row's lies at or below that row's answer.
-  pub stage_below_row : (n : ℕ) (r : Row d) → IsIn r rows → (v : d.Value) → d.leq r.name.pred v r.name.call → UpTo (d.leq r.name.pred) (stage d g n r.name.pred v) r.answer
+  pub stage_below_row : (n : ℕ) (r : Row d) → IsIn r rows → (v : d.Value) → d.leq r.name.pred v r.name.call
+      → UpTo (d.leq r.name.pred) (stage d g n r.name.pred v) r.answer
   stage_below_row n r i v le =
       subst (λ (o : Option d.Value). UpTo (d.leq r.name.pred) (stage d g n r.name.pred v) o) (lookup_row d g laws rows closed.distinct r i)
       (stage_below d g laws (source_of d rows) (λ p v. HasName d rows (name_of d p v)) closed_at n r.name.pred v r.name.call (r, i, refl) le)
@@ -41,7 +44,8 @@ module _ (d : Domain) (g : Program d) (laws : IsLawful d g) (rows : List (Row d)
   -- Theorem: each name that is reached at a stage lies at or below a row's name.
   pub reach_below_row : (n k : ℕ) (x : NameOf d) → Reaches d g (stage d g n) k x → (w : d.Value) × HasName d rows (name_of d x.pred w) × d.leq x.pred x.call w
   reach_below_row n k x r =
-      reach_below d g laws (stage d g n) (source_of d rows) (λ p v. HasName d rows (name_of d p v)) closed_at.calls_in (λ p v i. closed.entries (name_of d p v) i)
+      reach_below d g laws (stage d g n) (source_of d rows) (λ p v. HasName d rows (name_of d p v))
+      closed_at.calls_in (λ p v i. closed.entries (name_of d p v) i)
       (λ p v w i le. stage_below d g laws (source_of d rows) (λ p v. HasName d rows (name_of d p v)) closed_at n p v w i le) r
 
   -- what is reached under the list is a row
@@ -50,7 +54,8 @@ module _ (d : Domain) (g : Program d) (laws : IsLawful d g) (rows : List (Row d)
   reach_rows (ByCall {x = x} m c r i j) = closed_at.calls_in m.pred m.call (reach_rows r) c i x.pred x.call j
 
   -- Theorem: a closed list that is reached from below, in order, and all of whose rows are reached, is the least table.
-  pub closed_is_least : (before : Order d) → IsOrdered d before rows → IsFromBelow d g (source_of d rows) → ((r : Row d) → IsIn r rows → (k : ℕ) × Reaches d g (source_of d rows) k r.name) → IsLeastTable d g before rows
+  pub closed_is_least : (before : Order d) → IsOrdered d before rows → IsFromBelow d g (source_of d rows)
+      → ((r : Row d) → IsIn r rows → (k : ℕ) × Reaches d g (source_of d rows) k r.name) → IsLeastTable d g before rows
   closed_is_least before ordered low reach =
       least_table d g laws before (source_of d rows) rows low
       (λ k x r c i. closed_at.answers x.pred x.call (reach_rows r) c i)

@@ -9,7 +9,8 @@ given_given : {A B C : Type 0} (z : C) (o : Option A) (f : A → Option B) (k : 
 given_given z None f k = refl
 given_given z (Some x) f k = refl
 
-given_append : {A B C : Type 0} (o : Option A) (f : A → List C) (k : A → Option B) (m : B → List C) → given [] (λ x. f x ++ given [] m (k x)) o ≡ given [] f o ++ given [] m (given None k o)
+given_append : {A B C : Type 0} (o : Option A) (f : A → List C) (k : A → Option B) (m : B → List C)
+    → given [] (λ x. f x ++ given [] m (k x)) o ≡ given [] f o ++ given [] m (given None k o)
 given_append None f k m = refl
 given_append (Some x) f k m = refl
 
@@ -19,7 +20,8 @@ given_cong z (Some x) f k h = h x
 
 module _ (d : Domain) (s : Source d) where
   -- a walk in two parts
-  pub state_behind-append : (xs ys : List (Step d.Literal d.Action)) (st : d.State) → state_behind d s (xs ++ ys) st ≡ given None (λ next. state_behind d s ys next) (state_behind d s xs st)
+  pub state_behind-append : (xs ys : List (Step d.Literal d.Action)) (st : d.State)
+      → state_behind d s (xs ++ ys) st ≡ given None (λ next. state_behind d s ys next) (state_behind d s xs st)
   unfolding state_behind
   state_behind-append [] ys st = refl
   state_behind-append (Do x ∷ xs) ys st =
@@ -29,9 +31,11 @@ module _ (d : Domain) (s : Source d) where
       given_cong None (s (d.callee l) (d.call l st)) _ _ (λ a.
       given_cong None (d.back l st a) _ _ (λ next. state_behind-append xs ys next)
       ∙ sym (given_given None (d.back l st a) (λ next. state_behind d s xs next) (λ next. state_behind d s ys next)))
-      ∙ sym (given_given None (s (d.callee l) (d.call l st)) (λ a. given None (λ next. state_behind d s xs next) (d.back l st a)) (λ next. state_behind d s ys next))
+      ∙ sym (given_given None (s (d.callee l) (d.call l st)) (λ a. given None (λ next. state_behind d s xs next) (d.back l st a))
+      (λ next. state_behind d s ys next))
 
-  pub calls_along-append : (xs ys : List (Step d.Literal d.Action)) (st : d.State) → calls_along d s (xs ++ ys) st ≡ calls_along d s xs st ++ given [] (λ next. calls_along d s ys next) (state_behind d s xs st)
+  pub calls_along-append : (xs ys : List (Step d.Literal d.Action)) (st : d.State)
+      → calls_along d s (xs ++ ys) st ≡ calls_along d s xs st ++ given [] (λ next. calls_along d s ys next) (state_behind d s xs st)
   unfolding calls_along state_behind
   calls_along-append [] ys st = refl
   calls_along-append (Do x ∷ xs) ys st =
@@ -51,6 +55,7 @@ module _ (d : Domain) (g : Program d) (limit : ℕ) where
   after_push w [] e = refl
   after_push w (b ∷ es) e = after_push (after d g w b) es e
 
-  pub legal_push : (w : Work d) (es : List (LogEntry d)) (e : LogEntry d) → IsLegalLog d g limit w es → IsLegal d g limit (after_all d g w es) e → IsLegalLog d g limit w (es ++ e ∷ [])
+  pub legal_push : (w : Work d) (es : List (LogEntry d)) (e : LogEntry d) → IsLegalLog d g limit w es → IsLegal d g limit (after_all d g w es) e
+      → IsLegalLog d g limit w (es ++ e ∷ [])
   legal_push w [] e legal h = (h, tt)
   legal_push w (b ∷ es) e legal h = (legal.0, legal_push (after d g w b) es e legal.1 h)

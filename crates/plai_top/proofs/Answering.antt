@@ -58,7 +58,8 @@ module _ (form : Form) (p : PlainDomain) (limit number : ℕ) (own : ProgramView
   -- ---- a text that is written
 
   module _ (before after : Option (List ℕ)) where
-    pub answer_written : (given : Result ProgramView EditCause) (text : List ℕ) (shows : Bool) → IsBlockText form p limit number given text shows → Appends before after text
+    pub answer_written : (given : Result ProgramView EditCause) (text : List ℕ) (shows : Bool) → IsBlockText form p limit number given text shows
+        → Appends before after text
         → WritesBlock form p limit number given before after (Ok shows)
     answer_written given text shows is took = (text, is, took)
 
@@ -73,13 +74,22 @@ module _ (form : Form) (p : PlainDomain) (limit number : ℕ) (own : ProgramView
         (text_of form number (refused cause), record { block = refused cause; is_block = is_refused cause; is_text = refl; shows = sym is }, took)
     refused_written cause (Err stop) (inl memory) = inl memory
     refused_written cause (Err stop) (inr (fault, first)) =
-        inr (fault, (text_of form number (refused cause), false, record { block = refused cause; is_block = is_refused cause; is_text = refl; shows = refl }, first))
+        inr (
+          fault,
+          (
+            text_of form number (refused cause),
+            false,
+            record { block = refused cause; is_block = is_refused cause; is_text = refl; shows = refl },
+            first,
+          ),
+        )
 
 -- ---- an edit
 
 module _ {D : Type 0} (p : PlainDomain) (old new : SessionView D) (given_answer : EditAnswer) where
   -- the answer is one for what the edit makes of the program
-  pub edit_answer : (given : Result ProgramView EditCause) → IsEdited p old new given_answer given → IsAnswerFor p old.limit new.program new.table given_answer given
+  pub edit_answer : (given : Result ProgramView EditCause) → IsEdited p old new given_answer given
+      → IsAnswerFor p old.limit new.program new.table given_answer given
   edit_answer (Ok program) (own, same, limit, lost, is) = (own, is)
   edit_answer (Err cause) (is, same) = is
 
@@ -104,36 +114,46 @@ module _ (form : Form) (p : PlainDomain) (limit number : ℕ) (own : ProgramView
   pub on_table : (result : Result (Unit {0}) AllocError)
       → OnOk result ((table : TextTable) → rows ≡ Some table → new ≡ old ++ rows_text form number table.rows own.checks table.verdicts)
       → OnOk result ((given : Result ProgramView EditCause) → IsAnswerFor p limit own rows answer.Table given → IsBlockText form p limit number given new true)
-  on_table (Ok _) is = table_text form p limit number own rows new (λ table there. text_alone (rows_text form number table.rows own.checks table.verdicts) (is table there))
+  on_table (Ok _) is = table_text form p limit number own rows new
+      (λ table there. text_alone (rows_text form number table.rows own.checks table.verdicts) (is table there))
   on_table (Err _) is = tt
 
   pub on_refused : (result : Result (Unit {0}) AllocError) (cause : EditCause) → OnOk result (new ≡ old ++ cause_text form number cause)
-      → OnOk result ((given : Result ProgramView EditCause) → IsAnswerFor p limit own rows (answer.Refused cause) given → IsBlockText form p limit number given new false)
+      → OnOk result ((given : Result ProgramView EditCause) → IsAnswerFor p limit own rows (answer.Refused cause) given
+      → IsBlockText form p limit number given new false)
   on_refused (Ok _) cause is = refused_block form p limit number own rows cause new (text_alone (cause_text form number cause) is)
   on_refused (Err _) cause is = tt
 
   pub on_rows : (result : Result (Unit {0}) AllocError) (most : ℕ) → OnOk result (new ≡ old ++ limit_text form number (Some most))
-      → OnOk result ((given : Result ProgramView EditCause) → IsAnswerFor p limit own rows (answer.StoppedRows most) given → IsBlockText form p limit number given new false)
+      → OnOk result ((given : Result ProgramView EditCause) → IsAnswerFor p limit own rows (answer.StoppedRows most) given
+      → IsBlockText form p limit number given new false)
   on_rows (Ok _) most is = rows_block form p limit number own rows most new (text_alone (limit_text form number (Some most)) is)
   on_rows (Err _) most is = tt
 
   pub on_groups : (result : Result (Unit {0}) AllocError) (row : RowName) (clause literal place : ℕ) → OnOk result (new ≡ old ++ limit_text form number None)
-      → OnOk result ((given : Result ProgramView EditCause) → IsAnswerFor p limit own rows (answer.StoppedGroups row clause literal place) given → IsBlockText form p limit number given new false)
-  on_groups (Ok _) row clause literal place is = groups_block form p limit number own rows row clause literal place new (text_alone (limit_text form number None) is)
+      → OnOk result ((given : Result ProgramView EditCause) → IsAnswerFor p limit own rows (answer.StoppedGroups row clause literal place) given
+      → IsBlockText form p limit number given new false)
+  on_groups (Ok _) row clause literal place is =
+      groups_block form p limit number own rows row clause literal place new (text_alone (limit_text form number None) is)
   on_groups (Err _) row clause literal place is = tt
 
 -- ---- an edit's block
 
-module _ {D : Type 0} (form : Form) (plain : D → PlainDomain) (old new : SessionView D) (number : ℕ) (given_answer : EditAnswer) (before after : Option (List ℕ)) (result : Result Bool Stop) where
+module _ {D : Type 0} (form : Form) (plain : D → PlainDomain) (old new : SessionView D) (number : ℕ) (given_answer : EditAnswer)
+    (before after : Option (List ℕ)) (result : Result Bool Stop) where
   pub item_block : (given : Result ProgramView EditCause) → IsEdited (plain old.domain) old new given_answer given
-      → ((other : Result ProgramView EditCause) → IsAnswerFor (plain new.domain) new.limit new.program new.table given_answer other → WritesBlock form (plain new.domain) new.limit number other before after result)
+      → ((other : Result ProgramView EditCause) → IsAnswerFor (plain new.domain) new.limit new.program new.table given_answer other
+      → WritesBlock form (plain new.domain) new.limit number other before after result)
       → WritesBlock form (plain old.domain) old.limit number given before after result
   item_block given edited writes =
       let own : new.domain ≡ old.domain = edit_domain (plain old.domain) old new given_answer given edited in
       let most : new.limit ≡ old.limit = edit_limit (plain old.domain) old new given_answer given edited in
-      let is : IsAnswerFor (plain old.domain) old.limit new.program new.table given_answer given = edit_answer (plain old.domain) old new given_answer given edited in
-      let by_domain : IsAnswerFor (plain new.domain) old.limit new.program new.table given_answer given = subst (λ d. IsAnswerFor (plain d) old.limit new.program new.table given_answer given) (sym own) is in
-      let by_limit : IsAnswerFor (plain new.domain) new.limit new.program new.table given_answer given = subst (λ n. IsAnswerFor (plain new.domain) n new.program new.table given_answer given) (sym most) by_domain in
+      let is : IsAnswerFor (plain old.domain) old.limit new.program new.table given_answer given =
+      edit_answer (plain old.domain) old new given_answer given edited in
+      let by_domain : IsAnswerFor (plain new.domain) old.limit new.program new.table given_answer given =
+      subst (λ d. IsAnswerFor (plain d) old.limit new.program new.table given_answer given) (sym own) is in
+      let by_limit : IsAnswerFor (plain new.domain) new.limit new.program new.table given_answer given =
+      subst (λ n. IsAnswerFor (plain new.domain) n new.program new.table given_answer given) (sym most) by_domain in
       let there : WritesBlock form (plain new.domain) new.limit number given before after result = writes given by_limit in
       subst (λ n. WritesBlock form (plain old.domain) n number given before after result) most
       (subst (λ d. WritesBlock form (plain d) new.limit number given before after result) own there)

@@ -12,7 +12,24 @@ use Rattle.plai_make.specs.Programs.{made_edits}
 use Rattle.plai_top.specs.Commands.{IsCommand, IsMake}
 use Rattle.plai_top.specs.Files.{texts_of, AreShort, IsSomeLong, HasFiles}
 use Rattle.plai_top.specs.Loadings.{IsLoading, IsPrepared}
-use Rattle.plai_top.specs.Outcome.{Outcome, silent, line, refused_by, IsByWords, IsEarly, by_words, too_long, refused, IsAsked, by_files, by_make, IsByScript, IsOutcome, early, by_script}
+use Rattle.plai_top.specs.Outcome.{
+  Outcome,
+  silent,
+  line,
+  refused_by,
+  IsByWords,
+  IsEarly,
+  by_words,
+  too_long,
+  refused,
+  IsAsked,
+  by_files,
+  by_make,
+  IsByScript,
+  IsOutcome,
+  early,
+  by_script,
+}
 use Rattle.plai_top.specs.Outputs.{KeepsWords}
 use Rattle.plai_top.specs.Plans.{IsPlan, IsMadePlan, IsScripted, KeepsEarly}
 use Rattle.plai_top.specs.Stops.{status_of, IsReadEnd}
@@ -86,11 +103,13 @@ module _ (words : List (List ℕ)) (settings : Settings) (command : IsCommand wo
         subst (IsEarly words files) same (refused settings refusal (record { given = has; loads = sym (ap loaded are) ∙ loads }))
 
   -- the files were read by the names seen, and given to loading
-  module _ (seen : List (List ℕ)) (same : seen ≡ settings.files) (read given : List NamedText) (are : given ≡ read) (named : map (λ f. f.name) read ≡ seen) (told : Option TextMap)
+  module _ (seen : List (List ℕ)) (same : seen ≡ settings.files) (read given : List NamedText) (are : given ≡ read) (named : map (λ f. f.name) read ≡ seen)
+      (told : Option TextMap)
       (texts : IfSome told (λ files. map (λ f. f.text) read ≡ texts_of files seen)) (short : IfSome told (λ files. AreShort files seen)) where
     own_texts : IfSome told (λ files. map (λ f. f.text) given ≡ texts_of files settings.files)
     own_texts =
-        let of_read : IfSome told (λ files. map (λ f. f.text) read ≡ texts_of files settings.files) = subst (λ ns. IfSome told (λ files. map (λ f. f.text) read ≡ texts_of files ns)) same texts in
+        let of_read : IfSome told (λ files. map (λ f. f.text) read ≡ texts_of files settings.files) =
+        subst (λ ns. IfSome told (λ files. map (λ f. f.text) read ≡ texts_of files ns)) same texts in
         subst (λ fs. IfSome told (λ files. map (λ f. f.text) fs ≡ texts_of files settings.files)) (sym are) of_read
 
     own_names : map (λ f. f.name) given ≡ settings.files
@@ -120,11 +139,13 @@ stop_outcome words (Some files) None stop ends = tt
 stop_outcome words (Some files) (Some text) stop (inl read) = inl read
 stop_outcome words (Some files) (Some text) stop (inr is) = inr (early _ is)
 
-module _ (words : List (List ℕ)) (told : Option TextMap) (prepared : Prepared) (has : IfSome told (λ files. IsPrepared words files prepared.task prepared.loading)) where
+module _ (words : List (List ℕ)) (told : Option TextMap) (prepared : Prepared)
+    (has : IfSome told (λ files. IsPrepared words files prepared.task prepared.loading)) where
   pub as_program : (task : Task) (program : ProgramView) → prepared.task ≡ task → prepared.loading ≡ Program program
       → IfSome told (λ files. IsPrepared words files task (Program program))
   as_program task program same is =
-      subst (λ t. IfSome told (λ files. IsPrepared words files t (Program program))) same (subst (λ l. IfSome told (λ files. IsPrepared words files prepared.task l)) is has)
+      subst (λ t. IfSome told (λ files. IsPrepared words files t (Program program))) same
+      (subst (λ l. IfSome told (λ files. IsPrepared words files prepared.task l)) is has)
 
   pub as_line : (line : Vec ℕ Global) → prepared.loading ≡ Refused line → IfSome told (λ files. IsEarly words files (record { status = 3; bytes = line.items }))
   as_line line is = subst (λ l. IfSome told (λ files. IsPrepared words files prepared.task l)) is has
@@ -138,9 +159,11 @@ line_outcome words (Some files) (Some text) outcome is = early _ is
 
 module _ (words : List (List ℕ)) (task : Task) (program : ProgramView) where
   -- the script makes the plan, or stops the call
-  pub script_plan : (told : Option TextMap) (left : Option (List ℕ)) (result : Result Plan Stop) → IfSome told (λ files. IsPrepared words files task (Program program))
+  pub script_plan : (told : Option TextMap) (left : Option (List ℕ)) (result : Result Plan Stop)
+      → IfSome told (λ files. IsPrepared words files task (Program program))
       → IfSome left (λ text. MatchResult result (IsScripted task program text) (λ stop. IsReadEnd stop ⊎ IsByScript text (silent (status_of stop))))
-      → IfBothTold told left (λ files text. MatchResult result (IsPlan words files text) (λ stop. IsReadEnd stop ⊎ IsOutcome words files text (silent (status_of stop))))
+      → IfBothTold told left (λ files text. MatchResult result (IsPlan words files text)
+      (λ stop. IsReadEnd stop ⊎ IsOutcome words files text (silent (status_of stop))))
   script_plan None left result prepared made = tt
   script_plan (Some files) None result prepared made = tt
   script_plan (Some files) (Some text) (Ok (Line bytes)) (settings, same, has) made = by_script settings program _ has made
@@ -160,7 +183,8 @@ module _ (words : List (List ℕ)) (task : Task) (program : ProgramView) where
   program_unread None P prepared = tt
   program_unread (Some files) P (settings, same, has) = λ outcome is. absurd (program_not_early words files settings program has outcome is)
 
-pub line_keeps_early : (words : List (List ℕ)) (told : Option TextMap) (bytes : Vec ℕ Global) (P : Type 0) → IfSome told (λ files. IsEarly words files (line bytes.items))
+pub line_keeps_early : (words : List (List ℕ)) (told : Option TextMap) (bytes : Vec ℕ Global) (P : Type 0)
+    → IfSome told (λ files. IsEarly words files (line bytes.items))
     → IfSome told (λ files. KeepsEarly words files (Ok (Line bytes)) P)
 line_keeps_early words None bytes P is = tt
 line_keeps_early words (Some files) bytes P is = λ outcome other. early_is_one words files _ outcome is other
@@ -176,8 +200,10 @@ stop_keeps_early words (Some files) stop P (inr is) failed = λ outcome other. i
 -- ---- a made program
 
 module _ (words : List (List ℕ)) (settings : Settings) (count : ℕ) (make : IsMake words settings count) where
-  pub made_outcome : (told : Option TextMap) (left : Option (List ℕ)) (result : Result Plan Stop) → MatchResult result (IsMadePlan settings count) (λ stop. stop ≡ Memory)
-      → IfBothTold told left (λ files text. MatchResult result (IsPlan words files text) (λ stop. IsReadEnd stop ⊎ IsOutcome words files text (silent (status_of stop))))
+  pub made_outcome : (told : Option TextMap) (left : Option (List ℕ)) (result : Result Plan Stop)
+      → MatchResult result (IsMadePlan settings count) (λ stop. stop ≡ Memory)
+      → IfBothTold told left (λ files text. MatchResult result (IsPlan words files text)
+      (λ stop. IsReadEnd stop ⊎ IsOutcome words files text (silent (status_of stop))))
   made_outcome None left result is = tt
   made_outcome (Some files) None result is = tt
   made_outcome (Some files) (Some text) (Ok (Line bytes)) is = absurd is

@@ -11,7 +11,22 @@ use Rattle.plai_script.specs.declared.edit.Edit.{Edit}
 use Rattle.plai_session.specs.Programs.{behind}
 use Rattle.plai_top.specs.Blocks.{Block, texts_from, AreBlocksOf, one_more}
 use Rattle.plai_top.specs.Ending.{Comes, EndsBy, EndsByEach, EndsEarly, IsFaultOrComes}
-use Rattle.plai_top.specs.Outcome.{Outcome, silent, line, done, IsByWords, no_command, too_many, IsEarly, by_words, too_long, AreBlocks, IsMadeOutcome, IsOutcome, OutcomeIsOne}
+use Rattle.plai_top.specs.Outcome.{
+  Outcome,
+  silent,
+  line,
+  done,
+  IsByWords,
+  no_command,
+  too_many,
+  IsEarly,
+  by_words,
+  too_long,
+  AreBlocks,
+  IsMadeOutcome,
+  IsOutcome,
+  OutcomeIsOne,
+}
 use Rattle.plai_top.specs.Outcome as outcomes
 use Rattle.plai_top.specs.Plans.{IsPlan, IsFitPlan, IsLineOf, KeepsEarly, CarriesOut, IsPlanStop}
 use Rattle.plai_top.specs.Stops.{status_of, IsReadEnd}
@@ -37,12 +52,14 @@ all_kept (Some bytes) = refl
 
 -- ---- blocks that were written
 
-module _ (form : Form) (p : PlainDomain) (limit : ℕ) (given : Result ProgramView EditCause) (left : List (Result ProgramView EditCause)) (before after : Option (List ℕ)) where
+module _ (form : Form) (p : PlainDomain) (limit : ℕ) (given : Result ProgramView EditCause) (left : List (Result ProgramView EditCause))
+    (before after : Option (List ℕ)) where
   some_blocks : (blocks : List Block) → AreBlocksOf p limit (given ∷ left) blocks → blocks ≢ []
   some_blocks blocks (one_more _ block _ rest is are) e = let wrong : (block ∷ rest) ≡ [] = e in cc
 
   -- not all of them
-  pub cut_blocks : (stop : Stop) → WritesBlocks form p limit (given ∷ left) before after (Err stop) → (them : List Block) → AreBlocksOf p limit (given ∷ left) them
+  pub cut_blocks : (stop : Stop) → WritesBlocks form p limit (given ∷ left) before after (Err stop) → (them : List Block)
+      → AreBlocksOf p limit (given ∷ left) them
       → (others : List Block) × AreBlocksOf p limit (given ∷ left) others × EndsBy (status_of stop) before after (done form others)
   cut_blocks stop (text, is, wrote) them are =
       let (others, also, (rest, parts)) = first_extend p limit form (given ∷ left) before text is them are in
@@ -90,7 +107,8 @@ module _ (words : List (List ℕ)) (files : TextMap) (script : List ℕ) where
           let own : Carries before after (Err stop) (task_of settings) program items.items =
           subst (λ t. Carries before after (Err stop) t program items.items) (sym same) cut in
           let (them, are, own_is) = outcome_blocks words files script settings program items.items asked outcome is in
-          let (others, also, ends) = cut_blocks (form_of settings) (domain_of (task_of settings)) settings.rows (Ok program) (behind program items.items) before after stop own them are in
+          let (others, also, ends) = cut_blocks (form_of settings) (domain_of (task_of settings)) settings.rows (Ok program) (behind program items.items)
+          before after stop own them are in
           let other : IsOutcome words files script (done (form_of settings) others) = outcomes.blocks settings program items.items others asked also in
           (done (form_of settings) others, other, one words files script outcome (done (form_of settings) others) is other, ends)
 
@@ -118,7 +136,8 @@ module _ (words : List (List ℕ)) (before after : Option (List ℕ)) (plan : Pl
   plan_whole (Some files) None status is carried = tt
   plan_whole (Some files) (Some text) status is carried = inr (carried_comes words files text before after plan status is carried)
 
-  pub plan_every : (one : OutcomeIsOne) (told : Option TextMap) (left : Option (List ℕ)) (status : ℕ) → IfBothTold told left (λ files text. IsPlan words files text plan)
+  pub plan_every : (one : OutcomeIsOne) (told : Option TextMap) (left : Option (List ℕ)) (status : ℕ)
+      → IfBothTold told left (λ files text. IsPlan words files text plan)
       → CarriesOut before after plan (Ok status) → IfBothTold told left (λ files text. EndsByEach words (IsOutcome words files text) status before after)
   plan_every one None left status is carried = tt
   plan_every one (Some files) None status is carried = tt
@@ -131,7 +150,8 @@ module _ (words : List (List ℕ)) (before after : Option (List ℕ)) (plan : Pl
   cut_whole (Some files) (Some text) stop (inl fault) = inl (inr (inl (ap status_of fault)))
   cut_whole (Some files) (Some text) stop (inr memory) = inl (inr (inr (ap status_of memory)))
 
-  pub cut_every : (one : OutcomeIsOne) (told : Option TextMap) (left : Option (List ℕ)) (stop : Stop) → IfBothTold told left (λ files text. IsPlan words files text plan)
+  pub cut_every : (one : OutcomeIsOne) (told : Option TextMap) (left : Option (List ℕ)) (stop : Stop)
+      → IfBothTold told left (λ files text. IsPlan words files text plan)
       → IsFitPlan plan → CarriesOut before after plan (Err stop)
       → IfBothTold told left (λ files text. EndsByEach words (IsOutcome words files text) (status_of stop) before after)
   cut_every one None left stop is fit carried = tt
@@ -139,7 +159,8 @@ module _ (words : List (List ℕ)) (before after : Option (List ℕ)) (plan : Pl
   cut_every one (Some files) (Some text) stop is fit carried = cut_each words files text before after one plan stop is fit carried
 
 module _ (words : List (List ℕ)) (taken : Option (List ℕ)) (stop : Stop) where
-  pub stopped_whole : (told : Option TextMap) (left : Option (List ℕ)) → IfBothTold told left (λ files text. IsReadEnd stop ⊎ IsOutcome words files text (silent (status_of stop)))
+  pub stopped_whole : (told : Option TextMap) (left : Option (List ℕ))
+      → IfBothTold told left (λ files text. IsReadEnd stop ⊎ IsOutcome words files text (silent (status_of stop)))
       → IfBothTold told left (λ files text. IsFaultOrComes (IsOutcome words files text) (status_of stop) taken taken)
   stopped_whole None left ends = tt
   stopped_whole (Some files) None ends = tt
@@ -175,7 +196,10 @@ module _ (words : List (List ℕ)) (P : Type 0) where
       λ five. absurd (no_early_fault words files outcome is (sym (ap (λ o. o.status) one) ∙ five)),
     )
     | inr (inl fault) ↦ (inr (inl (ap status_of fault.0, all_kept taken)), λ five. fault.1)
-    | inr (inr memory) ↦ (inr (inr (inr (ap status_of memory, (0, nothing_appended taken)))), λ five. absurd (let e : 7 ≡ 5 = sym (ap status_of memory) ∙ five in omega arith))
+    | inr (inr memory) ↦ (
+      inr (inr (inr (ap status_of memory, (0, nothing_appended taken)))),
+      λ five. absurd (let e : 7 ≡ 5 = sym (ap status_of memory) ∙ five in omega arith),
+    )
   ]
 
   module _ (before after : Option (List ℕ)) where
@@ -188,12 +212,17 @@ module _ (words : List (List ℕ)) (P : Type 0) where
     cut_line : (plan : Plan) (stop : Stop) (outcome : Outcome) → IsLineOf outcome plan → IsFitPlan plan → CarriesOut before after plan (Err stop)
         → EndsBy (status_of stop) before after outcome × (status_of stop ≡ 5 → P)
     cut_line (Line bytes) stop outcome is some (fault, (n, took)) = (
-      inr (inr (inl (ap status_of fault, subst (λ l. l ≢ []) (ap (λ o. o.bytes) is) some, (n, subst (λ l. Appends before after (take n l)) (ap (λ o. o.bytes) is) took)))),
+      inr (inr (inl (
+        ap status_of fault,
+        subst (λ l. l ≢ []) (ap (λ o. o.bytes) is) some,
+        (n, subst (λ l. Appends before after (take n l)) (ap (λ o. o.bytes) is) took),
+      ))),
       λ five. absurd (let e : 6 ≡ 5 = sym (ap status_of fault) ∙ five in omega arith),
     )
     cut_line (Blocks task program items) stop outcome is some carried = absurd is
 
-    pub plan_early : (told : Option TextMap) (plan : Plan) (status : ℕ) → IfSome told (λ files. KeepsEarly words files (Ok plan) P) → CarriesOut before after plan (Ok status)
+    pub plan_early : (told : Option TextMap) (plan : Plan) (status : ℕ) → IfSome told (λ files. KeepsEarly words files (Ok plan) P)
+        → CarriesOut before after plan (Ok status)
         → IfSome told (λ files. EndsEarly words files status before after P)
     plan_early None plan status keeps carried = tt
     plan_early (Some files) plan status keeps carried = λ outcome is. carried_line plan status outcome (keeps outcome is) carried

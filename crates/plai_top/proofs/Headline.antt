@@ -57,7 +57,8 @@ module _ (p : PlainDomain) (program : ProgramView) (rows : List PlainRow) (descr
 
   call_printed : (pred : PredKey) (args : List Term) → IsCalled p program pred args → IsCallPrinted p rows own_text pred args
   call_printed pred args (state, reached, rest, e) =
-      let (row, i, is, told) = front_described state reached (Call pred args ∷ rest) e in (row, row_is_printed rows row i number program.checks (verdicts_of p rows program.checks), is, told)
+      let (row, i, is, told) = front_described state reached (Call pred args ∷ rest) e in
+      (row, row_is_printed rows row i number program.checks (verdicts_of p rows program.checks), is, told)
 
   answer_printed : (pred : PredKey) (was now : List Term) → IsAnswered p program pred was now → IsAnswerPrinted p rows own_text pred was now
   answer_printed pred was now (state, reached, rest, e) =
@@ -65,7 +66,13 @@ module _ (p : PlainDomain) (program : ProgramView) (rows : List PlainRow) (descr
       (row, row_is_printed rows row i number program.checks (verdicts_of p rows program.checks), is, called, answer, has, told)
 
   block_promised : IsLeastTable p program rows → VerdictsKept p program rows → IsPromised p program number own_text
-  block_promised least kept = record { rows = rows; least = least; written = refl; described = record { calls = call_printed; answers = answer_printed }; kept = kept }
+  block_promised least kept = record {
+    rows = rows;
+    least = least;
+    written = refl;
+    described = record { calls = call_printed; answers = answer_printed };
+    kept = kept;
+  }
 
 -- the laws of the domains of tasks
 abbrev pub LawsHold : Type 0
@@ -96,7 +103,8 @@ module _ (laws : LawsHold) (describes : LeastDescribes) (keeps : LeastKeeps) whe
       → IsPromised (domain_of task) program number (block_text number rows program.checks (verdicts_of (domain_of task) rows program.checks))
   table_promised task deep program formed rows least number =
       let both = laws task deep in
-      block_promised (domain_of task) program rows (describes task both.0 both.1 program formed rows least) number least (keeps task both.0 both.1 program formed rows least)
+      block_promised (domain_of task) program rows (describes task both.0 both.1 program formed rows least) number least
+      (keeps task both.0 both.1 program formed rows least)
 
 -- ---- blocks that were written
 
@@ -114,7 +122,8 @@ module _ (promise : TablesPromise) (task : Task) (deep : 1 ≤ task.depth) (limi
   one_promised number given block form (large_sets program over) = tt
   one_promised number given block form (is_refused cause) = tt
 
-  all_promised : (number : ℕ) (givens : List (Result ProgramView EditCause)) (blocks : List Block) → AreFormed givens → AreBlocksOf (domain_of task) limit givens blocks
+  all_promised : (number : ℕ) (givens : List (Result ProgramView EditCause)) (blocks : List Block) → AreFormed givens
+      → AreBlocksOf (domain_of task) limit givens blocks
       → ArePromised (domain_of task) number givens blocks
   all_promised number givens blocks forms no_more = tt
   all_promised number givens blocks forms (one_more given block others rest is are) = (
@@ -123,7 +132,8 @@ module _ (promise : TablesPromise) (task : Task) (deep : 1 ≤ task.depth) (limi
   )
 
 module _ (promise : TablesPromise) (words : List (List ℕ)) (before after : Option (List ℕ)) where
-  carried_promised : (files : TextMap) (script : List ℕ) (plan : Plan) (status : ℕ) → IsPlan words files script plan → IsFitPlan plan → CarriesOut before after plan (Ok status)
+  carried_promised : (files : TextMap) (script : List ℕ) (plan : Plan) (status : ℕ) → IsPlan words files script plan → IsFitPlan plan
+      → CarriesOut before after plan (Ok status)
       → (status ≡ 0) ⊎ (status ≡ 1) → TakesPromised words files script before after
   carried_promised files script (Line bytes) status is fit (three, took) done = absurd (not_three status three done)
     where
@@ -144,7 +154,8 @@ module _ (promise : TablesPromise) (words : List (List ℕ)) (before after : Opt
         promised = subst (λ t. ArePromised (domain_of t) 0 (Ok program ∷ behind program items.items) written.blocks) (sym same) promised;
       }
 
-  pub plan_promised : (told : Option TextMap) (left : Option (List ℕ)) (plan : Plan) (status : ℕ) → IfBothTold told left (λ files text. IsPlan words files text plan)
+  pub plan_promised : (told : Option TextMap) (left : Option (List ℕ)) (plan : Plan) (status : ℕ)
+      → IfBothTold told left (λ files text. IsPlan words files text plan)
       → IsFitPlan plan → CarriesOut before after plan (Ok status)
       → IfBothTold told left (λ files text. (status ≡ 0) ⊎ (status ≡ 1) → TakesPromised words files text before after)
   plan_promised None left plan status is fit carried = tt

@@ -76,18 +76,22 @@ module _ (words : List (List ℕ)) (settings : Settings) (count : ℕ) (make : I
 module _ (words : List (List ℕ)) (one : OutcomeIsOne) where
   pub plan_made : (before after : Option (List ℕ)) (plan : Plan) (status : ℕ) → KeepsMade words (Ok plan) → CarriesOut before after plan (Ok status)
       → EndsMade words status before after
-  plan_made before after plan status keeps carried settings count make = made_ends words settings count make one before after plan status (keeps settings count make) carried
+  plan_made before after plan status keeps carried settings count make =
+      made_ends words settings count make one before after plan status (keeps settings count make) carried
 
-  pub cut_made : (before after : Option (List ℕ)) (plan : Plan) (stop : Stop) → KeepsMade words (Ok plan) → IsPlanStop stop → CarriesOut before after plan (Err stop)
+  pub cut_made : (before after : Option (List ℕ)) (plan : Plan) (stop : Stop) → KeepsMade words (Ok plan) → IsPlanStop stop
+      → CarriesOut before after plan (Err stop)
       → EndsMade words (status_of stop) before after
-  cut_made before after plan stop keeps which carried settings count make = made_cut words settings count make one before after plan stop (keeps settings count make) which carried
+  cut_made before after plan stop keeps which carried settings count make =
+      made_cut words settings count make one before after plan stop (keeps settings count make) which carried
 
   pub stopped_made : (taken : Option (List ℕ)) (stop : Stop) → KeepsMade words (Err stop) → EndsMade words (status_of stop) taken taken
   stopped_made taken stop keeps settings count make = made_stopped words settings count make one taken stop (keeps settings count make)
 
 -- ---- the status
 
-pub plan_made_status : (words : List (List ℕ)) (plan : Plan) (status : ℕ) → KeepsMade words (Ok plan) → IsPlanStatus plan status → AskForMade words → IsMadeStatus status
+pub plan_made_status : (words : List (List ℕ)) (plan : Plan) (status : ℕ) → KeepsMade words (Ok plan) → IsPlanStatus plan status → AskForMade words
+    → IsMadeStatus status
 plan_made_status words (Line bytes) status keeps is (settings, count, make) = absurd (keeps settings count make)
 plan_made_status words (Blocks task program items) status keeps (inl none) asked = inl none
 plan_made_status words (Blocks task program items) status keeps (inr one) asked = inr (inl one)

@@ -14,7 +14,8 @@ use Rattle.plai_top.specs.declared.form.Form.{Form}
 use Rattle.plai_top.specs.declared.stop.Stop.{Stop}
 use Rattle.plai_top.proofs.Written.{first_written, first_stops}
 
-module _ {D : Type 0} (form : Form) (plain : D → PlainDomain) (session : SessionView D) (given_answer : EditAnswer) (items : List (Result Edit EditCause)) (before now : Option (List ℕ))
+module _ {D : Type 0} (form : Form) (plain : D → PlainDomain) (session : SessionView D) (given_answer : EditAnswer) (items : List (Result Edit EditCause))
+    (before now : Option (List ℕ))
     (domain : D) (limit : ℕ) (program : ProgramView) (own : session.domain ≡ domain) (most : session.limit ≡ limit) (has : session.program ≡ program)
     (is : IsAnalysed (plain domain) limit program session.table given_answer) where
   abbrev Writes : Result Bool Stop → Type 0
@@ -23,12 +24,14 @@ module _ {D : Type 0} (form : Form) (plain : D → PlainDomain) (session : Sessi
 
   own_answer : IsAnalysed (plain session.domain) session.limit session.program session.table given_answer
   own_answer =
-      let by_program : IsAnalysed (plain domain) limit session.program session.table given_answer = subst (λ g. IsAnalysed (plain domain) limit g session.table given_answer) (sym has) is in
+      let by_program : IsAnalysed (plain domain) limit session.program session.table given_answer =
+      subst (λ g. IsAnalysed (plain domain) limit g session.table given_answer) (sym has) is in
       let by_limit : IsAnalysed (plain domain) session.limit session.program session.table given_answer =
       subst (λ n. IsAnalysed (plain domain) n session.program session.table given_answer) (sym most) by_program in
       subst (λ d. IsAnalysed (plain d) session.limit session.program session.table given_answer) (sym own) by_limit
 
-  as_given : (after : Option (List ℕ)) (result : Result ℕ Stop) → WritesBlocks form (plain session.domain) session.limit (Ok session.program ∷ behind session.program items) before after result
+  as_given : (after : Option (List ℕ)) (result : Result ℕ Stop)
+      → WritesBlocks form (plain session.domain) session.limit (Ok session.program ∷ behind session.program items) before after result
       → WritesBlocks form (plain domain) limit (Ok program ∷ behind program items) before after result
   as_given after result writes =
       let by_domain : WritesBlocks form (plain domain) session.limit (Ok session.program ∷ behind session.program items) before after result =
@@ -39,14 +42,17 @@ module _ {D : Type 0} (form : Form) (plain : D → PlainDomain) (session : Sessi
 
   -- the other blocks were written behind it, or not all
   pub opened_blocks : IsWellFormed program → (after : Option (List ℕ)) (shows : Bool) (result : Result ℕ Stop) → Writes (Ok shows)
-      → ((givens : List (Result ProgramView EditCause)) (from : Option (List ℕ)) → Wrote form (plain session.domain) session.limit givens from now (behind session.program items) 1 shows
+      → ((givens : List (Result ProgramView EditCause)) (from : Option (List ℕ))
+      → Wrote form (plain session.domain) session.limit givens from now (behind session.program items) 1 shows
       → WritesBlocks form (plain session.domain) session.limit givens from after result)
       → WritesBlocks form (plain domain) limit (Ok program ∷ behind program items) before after result
   opened_blocks well after shows result writes others =
       as_given after result (others (Ok session.program ∷ behind session.program items) before
-      (first_written form (plain session.domain) session.limit (Ok session.program) (behind session.program items) before now shows (subst IsWellFormed (sym has) well) (writes (Ok session.program) (refl, own_answer))))
+      (first_written form (plain session.domain) session.limit (Ok session.program) (behind session.program items) before now shows
+      (subst IsWellFormed (sym has) well) (writes (Ok session.program) (refl, own_answer))))
 
   -- the first block wasn't written
   pub opened_stops : (stop : Stop) → Writes (Err stop) → WritesBlocks form (plain domain) limit (Ok program ∷ behind program items) before now (Err stop)
   opened_stops stop writes =
-      as_given now (Err stop) (first_stops form (plain session.domain) session.limit (Ok session.program) (behind session.program items) before now stop (writes (Ok session.program) (refl, own_answer)))
+      as_given now (Err stop) (first_stops form (plain session.domain) session.limit (Ok session.program) (behind session.program items) before now stop
+      (writes (Ok session.program) (refl, own_answer)))

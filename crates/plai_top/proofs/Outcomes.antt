@@ -16,8 +16,56 @@ use Rattle.plai_words.specs.declared.types.Settings.{Settings}
 use Rattle.plai_make.specs.Programs.{made_program, made_edits}
 use Rattle.plai_top.specs.Commands.{most_files, is_over_files, IsCommand, IsMake}
 use Rattle.plai_top.specs.Files.{texts_of, IsSomeLong, HasFiles, HasProgram, HasRefusal}
-use Rattle.plai_top.specs.Blocks.{Block, table_of, stopped, AreBlocksOf, no_more, one_more, IsBlockOf, is_table_of, many_rows, large_sets, is_refused, by_rows, by_groups, IsTableOrStop, is_within, is_stop, AreSameUpToStops, none_left, same_block, stop_before, stop_behind}
-use Rattle.plai_top.specs.Outcome.{Outcome, line, done, refused_by, IsByWords, no_command, too_many, IsEarly, by_words, too_long, refused, longest_script, IsByScript, script_too_long, script_refused, HasEdits, AreBlocks, IsAsked, by_files, by_make, IsOutcome, early, by_script, blocks, OutcomeIsOne}
+use Rattle.plai_top.specs.Blocks.{
+  Block,
+  table_of,
+  stopped,
+  AreBlocksOf,
+  no_more,
+  one_more,
+  IsBlockOf,
+  is_table_of,
+  many_rows,
+  large_sets,
+  is_refused,
+  by_rows,
+  by_groups,
+  IsTableOrStop,
+  is_within,
+  is_stop,
+  AreSameUpToStops,
+  none_left,
+  same_block,
+  stop_before,
+  stop_behind,
+}
+use Rattle.plai_top.specs.Outcome.{
+  Outcome,
+  line,
+  done,
+  refused_by,
+  IsByWords,
+  no_command,
+  too_many,
+  IsEarly,
+  by_words,
+  too_long,
+  refused,
+  longest_script,
+  IsByScript,
+  script_too_long,
+  script_refused,
+  HasEdits,
+  AreBlocks,
+  IsAsked,
+  by_files,
+  by_make,
+  IsOutcome,
+  early,
+  by_script,
+  blocks,
+  OutcomeIsOne,
+}
 use Rattle.plai_top.specs.Refusal.{script_refusal_text}
 use Rattle.plai_top.specs.Tasks.{domain_of, form_of, task_of}
 use Rattle.plai_top.specs.declared.task.Task.{Task}
@@ -84,16 +132,19 @@ module _ (words : List (List ℕ)) where
 
     pub same_program : (s t : Settings) (program other : ProgramView) → HasProgram words files s program → HasProgram words files t other → program ≡ other
     same_program s t program other one two =
-        let e : ◌≡◌ {A = Result ProgramView Refusal} (Ok program) (Ok other) = loaded_once s t (Ok program) (Ok other) one.given.command two.given.command one.loads two.loads in cc
+        let e : ◌≡◌ {A = Result ProgramView Refusal} (Ok program) (Ok other) =
+        loaded_once s t (Ok program) (Ok other) one.given.command two.given.command one.loads two.loads in cc
 
     same_refusal : (s t : Settings) (refusal other : Refusal) → HasRefusal words files s refusal → HasRefusal words files t other → refusal ≡ other
     same_refusal s t refusal other one two =
-        let e : ◌≡◌ {A = Result ProgramView Refusal} (Err refusal) (Err other) = loaded_once s t (Err refusal) (Err other) one.given.command two.given.command one.loads two.loads in cc
+        let e : ◌≡◌ {A = Result ProgramView Refusal} (Err refusal) (Err other) =
+        loaded_once s t (Err refusal) (Err other) one.given.command two.given.command one.loads two.loads in cc
 
     refused_once : (s t : Settings) (refusal other : Refusal) → HasRefusal words files s refusal → HasRefusal words files t other
         → refused_by s.files refusal ≡ refused_by t.files other
     refused_once s t refusal other one two =
-        ap (λ x. refused_by x.files refusal) (same_command s t one.given.command two.given.command) ∙ ap (refused_by t.files) (same_refusal s t refusal other one two)
+        ap (λ x. refused_by x.files refusal) (same_command s t one.given.command two.given.command)
+        ∙ ap (refused_by t.files) (same_refusal s t refusal other one two)
 
     -- what is decided early is decided once
     pub early_is_one : (first second : Outcome) → IsEarly words files first → IsEarly words files second → first ≡ second
@@ -141,7 +192,8 @@ script_is_one : (script : List ℕ) (first second : Outcome) → IsByScript scri
 script_is_one script first second (script_too_long long) (script_too_long also) = refl
 script_is_one script first second (script_too_long long) (script_refused refusal short is) = absurd (omega arith)
 script_is_one script first second (script_refused refusal short is) (script_too_long long) = absurd (omega arith)
-script_is_one script first second (script_refused refusal short is) (script_refused other also two) = ap (λ r. line (script_refusal_text r)) (same_script_refusal script refusal other is two)
+script_is_one script first second (script_refused refusal short is) (script_refused other also two) =
+    ap (λ r. line (script_refusal_text r)) (same_script_refusal script refusal other is two)
 
 -- the script decides nothing where its edits are carried out
 not_by_script : (script : List ℕ) (items : List (Result Edit EditCause)) → HasEdits script items → (outcome : Outcome) → IsByScript script outcome → ⊥
@@ -177,7 +229,8 @@ module _ (words : List (List ℕ)) (files : TextMap) (script : List ℕ) where
 
   -- an outcome of what is asked for is blocks of it
   pub outcome_blocks : (settings : Settings) (program : ProgramView) (items : List (Result Edit EditCause)) → IsAsked words files script settings program items
-      → (outcome : Outcome) → IsOutcome words files script outcome → (them : List Block) × AreBlocks settings program items them × (outcome ≡ done (form_of settings) them)
+      → (outcome : Outcome) → IsOutcome words files script outcome
+      → (them : List Block) × AreBlocks settings program items them × (outcome ≡ done (form_of settings) them)
   outcome_blocks settings program items asked outcome (early _ is) = absurd (asked_not_early settings program items asked outcome is)
   outcome_blocks settings program items asked outcome (by_script other_settings other _ also is) =
       absurd (asked_not_by_script settings other_settings program other items asked also outcome is)
@@ -235,9 +288,12 @@ module _ (table_one : (task : Task) (program : ProgramView) (rows others : List 
   pub one_outcome : OutcomeIsOne
   one_outcome words files script first second (early _ one) (early _ two) = inl (early_is_one words files first second one two)
   one_outcome words files script first second (early _ one) (by_script t other _ loaded two) = absurd (program_not_early words files t other loaded first one)
-  one_outcome words files script first second (early _ one) (blocks t other items them asked are) = absurd (asked_not_early words files script t other items asked first one)
-  one_outcome words files script first second (by_script s program _ loaded one) (early _ two) = absurd (program_not_early words files s program loaded second two)
-  one_outcome words files script first second (by_script s program _ loaded one) (by_script t other _ also two) = inl (script_is_one script first second one two)
+  one_outcome words files script first second (early _ one) (blocks t other items them asked are) =
+      absurd (asked_not_early words files script t other items asked first one)
+  one_outcome words files script first second (by_script s program _ loaded one) (early _ two) =
+      absurd (program_not_early words files s program loaded second two)
+  one_outcome words files script first second (by_script s program _ loaded one) (by_script t other _ also two) =
+      inl (script_is_one script first second one two)
   one_outcome words files script first second (by_script s program _ loaded one) (blocks t other items them asked are) =
       absurd (asked_not_by_script words files script t s other program items asked loaded first one)
   one_outcome words files script first second (blocks s program items them asked are) two =

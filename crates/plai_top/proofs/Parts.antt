@@ -64,7 +64,8 @@ module _ (words : List (List ℕ)) (files : TextMap) (script : List ℕ) where
 -- ---- where library and script tell
 
 -- what holds of all texts
-all_told : (told : Option TextMap) (left : Option (List ℕ)) (P : TextMap → List ℕ → Type 0) → ((files : TextMap) (text : List ℕ) → P files text) → IfBothTold told left P
+all_told : (told : Option TextMap) (left : Option (List ℕ)) (P : TextMap → List ℕ → Type 0) → ((files : TextMap) (text : List ℕ) → P files text)
+    → IfBothTold told left P
 all_told None left P holds = tt
 all_told (Some files) None P holds = tt
 all_told (Some files) (Some text) P holds = holds files text
@@ -72,14 +73,17 @@ all_told (Some files) (Some text) P holds = holds files text
 module _ (words : List (List ℕ)) (told : Option TextMap) (left : Option (List ℕ)) where
   module _ (before after : Option (List ℕ)) (plan : Plan) where
     pub plan_part : (status : ℕ) → IsPlanStatus plan status → IfBothTold told left (λ files text. EndsWithin words files text status before after)
-    plan_part status is = all_told told left (λ files text. EndsWithin words files text status before after) (λ files text. plan_within words files text before after plan status is)
+    plan_part status is = all_told told left (λ files text. EndsWithin words files text status before after)
+        (λ files text. plan_within words files text before after plan status is)
 
   pub stopped_part : (taken : Option (List ℕ)) (stop : Stop) → (stop ≡ WriteFault → ⊥)
       → IfBothTold told left (λ files text. EndsWithin words files text (status_of stop) taken taken)
   stopped_part taken stop no_write =
-      all_told told left (λ files text. EndsWithin words files text (status_of stop) taken taken) (λ files text. stopped_within words files text taken stop no_write)
+      all_told told left (λ files text. EndsWithin words files text (status_of stop) taken taken)
+      (λ files text. stopped_within words files text taken stop no_write)
 
-module _ (words : List (List ℕ)) (before after : Option (List ℕ)) (plan : Plan) (stop : Stop) (fit : IsFitPlan plan) (cut : CarriesOut before after plan (Err stop)) where
+module _ (words : List (List ℕ)) (before after : Option (List ℕ)) (plan : Plan) (stop : Stop) (fit : IsFitPlan plan)
+    (cut : CarriesOut before after plan (Err stop)) where
   pub cut_part : (told : Option TextMap) (left : Option (List ℕ)) → IfBothTold told left (λ files text. IsPlan words files text plan)
       → IfBothTold told left (λ files text. EndsWithin words files text (status_of stop) before after)
   cut_part None left is = tt
@@ -87,7 +91,8 @@ module _ (words : List (List ℕ)) (before after : Option (List ℕ)) (plan : Pl
   cut_part (Some files) (Some text) is = cut_within words files text before after plan stop is fit cut
 
   -- a made program's plan is one for all files and scripts
-  pub cut_made_part : KeepsMade words (Ok plan) → AskForMade words → (files : TextMap) (text : List ℕ) → EndsWithin words files text (status_of stop) before after
+  pub cut_made_part : KeepsMade words (Ok plan) → AskForMade words → (files : TextMap) (text : List ℕ)
+      → EndsWithin words files text (status_of stop) before after
   cut_made_part keeps (settings, count, make) files text =
       let is : IsPlan words files text plan = made_outcome words settings count make (Some files) (Some text) (Ok plan) (keeps settings count make) in
       cut_within words files text before after plan stop is fit cut

@@ -50,7 +50,9 @@ pub row_is_printed : (rows : List PlainRow) (row : PlainRow) → IsIn row rows �
 row_is_printed rows row h number checks verdicts =
     let head : List ℕ = codes "edit " ++ decimal number in
     let told : List ℕ = checks_text checks verdicts in
-    let block : (head ++ end_of_line) ++ lines rows ++ told ++ codes "end" ++ end_of_line ≡ (head ++ end_of_line) ++ lines rows ++ (told ++ (codes "end" ++ end_of_line)) =
-    append_assoc ((head ++ end_of_line) ++ lines rows ++ told) (codes "end") end_of_line ∙ append_assoc ((head ++ end_of_line) ++ lines rows) told (codes "end" ++ end_of_line) in
+    let block : (head ++ end_of_line) ++ lines rows ++ told ++ codes "end" ++ end_of_line
+    ≡ (head ++ end_of_line) ++ lines rows ++ (told ++ (codes "end" ++ end_of_line)) =
+    append_assoc ((head ++ end_of_line) ++ lines rows ++ told) (codes "end") end_of_line
+    ∙ append_assoc ((head ++ end_of_line) ++ lines rows) told (codes "end" ++ end_of_line) in
     let (before, after, is) = has_line rows row h head (told ++ (codes "end" ++ end_of_line)) in
     record { inside = h; before = before; after = after; line = block ∙ is }

@@ -62,7 +62,8 @@ read_more : (names : List (List ℕ)) (i : ℕ) (name : List ℕ) (told : Option
     → IfSome told (λ library. file.text ≡ text_of library name) → length file.text ≤ longest_text
     → AreRead (take (i + 1) names) told (files ++ file ∷ [])
 read_more names i name told files file before below is named text short =
-    let own : IfSome told (λ library. file.text ≡ text_of library file.name) = subst (λ n. IfSome told (λ library. file.text ≡ text_of library n)) (sym named) text in
+    let own : IfSome told (λ library. file.text ≡ text_of library file.name) =
+    subst (λ n. IfSome told (λ library. file.text ≡ text_of library n)) (sym named) text in
     let next : take (i + 1) names ≡ take i names ++ file.name ∷ [] = take_more names i name below ∙ ap (λ x. take i names ++ x ∷ []) (sym is ∙ sym named) in
     subst (λ ns. AreRead ns told (files ++ file ∷ [])) (sym next) (one_more (take i names) files file short told before own)
 

@@ -10,7 +10,8 @@ use Rattle.plai_top.specs.declared.stop.Stop.TheVariants.{TooLarge}
 
 module _ (text : List ℕ) (short : length text ≤ longest_script) where
   -- a place without a token
-  pub refused_line : (refusal : ScriptRefusal) (bytes : List ℕ) → script_of text ≡ Err refusal → bytes ≡ script_refusal_text refusal → IsByScript text (line bytes)
+  pub refused_line : (refusal : ScriptRefusal) (bytes : List ℕ) → script_of text ≡ Err refusal → bytes ≡ script_refusal_text refusal
+      → IsByScript text (line bytes)
   refused_line refusal bytes read is = subst (λ b. IsByScript text (line b)) (sym is) (script_refused refusal short read)
 
 -- too many bytes

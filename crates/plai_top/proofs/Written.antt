@@ -1,5 +1,41 @@
 -- Blocks that are written one by one are the blocks of a call.
-use Rattle.std.proofs.Common.{◌≡◌, ◌≢◌, ℕ, zero, suc, ◌+◌, Bool, true, false, ◌&&◌, cond, ◌<◌, ◌≤◌, List, [], ◌∷◌, ◌++◌, None, Some, Result, Ok, Err, IfOk, length, take, drop, get_or, refl, sym, ◌∙◌, ap, subst, inl, inr, arith}
+use Rattle.std.proofs.Common.{
+  ◌≡◌,
+  ◌≢◌,
+  ℕ,
+  zero,
+  suc,
+  ◌+◌,
+  Bool,
+  true,
+  false,
+  ◌&&◌,
+  cond,
+  ◌<◌,
+  ◌≤◌,
+  List,
+  [],
+  ◌∷◌,
+  ◌++◌,
+  None,
+  Some,
+  Result,
+  Ok,
+  Err,
+  IfOk,
+  length,
+  take,
+  drop,
+  get_or,
+  refl,
+  sym,
+  ◌∙◌,
+  ap,
+  subst,
+  inl,
+  inr,
+  arith,
+}
 use Rattle.std.proofs.Math.Seq.{take-append_seam, take-append-add}
 use Rattle.std.proofs.lemmas.List.{append-nil, append_assoc, length-append, drop_more, drop_all}
 use Rattle.std.proofs.lemmas.List.Folds.{list_all-append}
@@ -22,7 +58,8 @@ use Rattle.plai_top.specs.declared.stop.Stop.TheVariants.{WriteFault, Memory}
 
 -- ---- bytes
 
-pub appends_then : (before between behind_it : Option (List ℕ)) (xs ys : List ℕ) → Appends before between xs → Appends between behind_it ys → Appends before behind_it (xs ++ ys)
+pub appends_then : (before between behind_it : Option (List ℕ)) (xs ys : List ℕ) → Appends before between xs → Appends between behind_it ys
+    → Appends before behind_it (xs ++ ys)
 appends_then None between behind_it xs ys one two = tt
 appends_then (Some a) None behind_it xs ys one two = absurd one
 appends_then (Some a) (Some b) None xs ys one two = absurd two
@@ -56,13 +93,16 @@ module _ (before after : Option (List ℕ)) (text rest whole : List ℕ) (parts 
 
 -- ---- texts of blocks
 
-pub texts_join : (form : Form) (number : ℕ) (blocks others : List Block) → texts_from form number (blocks ++ others) ≡ texts_from form number blocks ++ texts_from form (number + length blocks) others
+pub texts_join : (form : Form) (number : ℕ) (blocks others : List Block)
+    → texts_from form number (blocks ++ others) ≡ texts_from form number blocks ++ texts_from form (number + length blocks) others
 texts_join form number [] others = ap (λ n. texts_from form n others) (omega arith)
 texts_join form number (block ∷ blocks) others =
-    ap (λ l. text_of form number block ++ l) (texts_join form (number + 1) blocks others ∙ ap (λ n. texts_from form (number + 1) blocks ++ texts_from form n others) (omega arith))
+    ap (λ l. text_of form number block ++ l)
+    (texts_join form (number + 1) blocks others ∙ ap (λ n. texts_from form (number + 1) blocks ++ texts_from form n others) (omega arith))
     ∙ sym (append_assoc (text_of form number block) (texts_from form (number + 1) blocks) (texts_from form (number + length (block ∷ blocks)) others))
 
-pub texts_behind : (form : Form) (blocks others : List Block) → texts_from form 0 (blocks ++ others) ≡ texts_from form 0 blocks ++ texts_from form (length blocks) others
+pub texts_behind : (form : Form) (blocks others : List Block)
+    → texts_from form 0 (blocks ++ others) ≡ texts_from form 0 blocks ++ texts_from form (length blocks) others
 texts_behind form blocks others = texts_join form 0 blocks others ∙ ap (λ n. texts_from form 0 blocks ++ texts_from form n others) (omega arith)
 
 -- they have bytes
@@ -83,11 +123,13 @@ one_more_is_some [] block e = let wrong : (block ∷ []) ≡ [] = e in cc
 one_more_is_some (first ∷ blocks) block e = let wrong : (first ∷ (blocks ++ block ∷ [])) ≡ [] = e in cc
 
 module _ (p : PlainDomain) (limit : ℕ) where
-  blocks_join : (gs hs : List (Result ProgramView EditCause)) (bs cs : List Block) → AreBlocksOf p limit gs bs → AreBlocksOf p limit hs cs → AreBlocksOf p limit (gs ++ hs) (bs ++ cs)
+  blocks_join : (gs hs : List (Result ProgramView EditCause)) (bs cs : List Block) → AreBlocksOf p limit gs bs → AreBlocksOf p limit hs cs
+      → AreBlocksOf p limit (gs ++ hs) (bs ++ cs)
   blocks_join gs hs bs cs no_more two = two
   blocks_join gs hs bs cs (one_more g b fs ds is are) two = one_more g b (fs ++ hs) (ds ++ cs) is (blocks_join fs hs ds cs are two)
 
-  later_blocks : (gs hs : List (Result ProgramView EditCause)) (bs : List Block) → AreBlocksOf p limit (gs ++ hs) bs → (cs : List Block) × AreBlocksOf p limit hs cs
+  later_blocks : (gs hs : List (Result ProgramView EditCause)) (bs : List Block) → AreBlocksOf p limit (gs ++ hs) bs
+      → (cs : List Block) × AreBlocksOf p limit hs cs
   later_blocks [] hs bs are = (bs, are)
   later_blocks (g ∷ gs) hs bs (one_more _ b _ ds is are) = later_blocks gs hs ds are
 
@@ -96,12 +138,23 @@ module _ (p : PlainDomain) (limit : ℕ) where
 
   module _ (form : Form) (givens : List (Result ProgramView EditCause)) (before : Option (List ℕ)) where
     pub nothing_written : Appends before before [] → Wrote form p limit givens before before givens 0 true
-    nothing_written none = record { earlier = []; written = []; parts = refl; are = no_more; bytes = none; formed = All-nil (λ given. IfOk given IsWellFormed); count = refl; tables = refl }
+    nothing_written none = record {
+      earlier = [];
+      written = [];
+      parts = refl;
+      are = no_more;
+      bytes = none;
+      formed =
+          All-nil (λ given. IfOk given IsWellFormed);
+      count = refl;
+      tables = refl;
+    }
 
     module _ (now : Option (List ℕ)) (given : Result ProgramView EditCause) (left : List (Result ProgramView EditCause)) (number : ℕ) (are_tables : Bool)
         (wrote : Wrote form p limit givens before now (given ∷ left) number are_tables) where
       -- one block more
-      pub wrote_more : IfOk given IsWellFormed → (next : Option (List ℕ)) (shows : Bool) → WritesBlock form p limit number given now next (Ok shows) → Wrote form p limit givens before next left (number + 1) (are_tables && shows)
+      pub wrote_more : IfOk given IsWellFormed → (next : Option (List ℕ)) (shows : Bool) → WritesBlock form p limit number given now next (Ok shows)
+          → Wrote form p limit givens before next left (number + 1) (are_tables && shows)
       wrote_more own_form next shows (text, is, took) = record {
         earlier = wrote.earlier ++ given ∷ [];
         written = wrote.written ++ is.block ∷ [];
@@ -149,7 +202,8 @@ module _ (p : PlainDomain) (limit : ℕ) where
             ),
           )
 
-      pub wrote_stops : (next : Option (List ℕ)) (stop : Stop) → WritesBlock form p limit number given now next (Err stop) → WritesBlocks form p limit givens before next (Err stop)
+      pub wrote_stops : (next : Option (List ℕ)) (stop : Stop) → WritesBlock form p limit number given now next (Err stop)
+          → WritesBlocks form p limit givens before next (Err stop)
       wrote_stops next stop (inl (memory, same)) =
           let head : List ℕ = texts_from form 0 wrote.written in
           let took : Appends before next (head ++ []) = appends_then before now next head [] wrote.bytes (kept_appends now next same) in (
@@ -187,7 +241,8 @@ module _ (p : PlainDomain) (limit : ℕ) where
 -- ---- an item of the script
 
 module _ (form : Form) (p : PlainDomain) (limit : ℕ) (givens : List (Result ProgramView EditCause)) (before now : Option (List ℕ)) (program : ProgramView)
-    (items : List (Result Edit EditCause)) (i : ℕ) (item : Result Edit EditCause) (number : ℕ) (are_tables : Bool) (within : i < length items) (is : item ≡ get_or items i item) where
+    (items : List (Result Edit EditCause)) (i : ℕ) (item : Result Edit EditCause) (number : ℕ) (are_tables : Bool) (within : i < length items)
+    (is : item ≡ get_or items i item) where
   -- the next item is the first that is left
   next_left : behind program (drop i items) ≡ judged program item ∷ behind (kept program (judged program item)) (drop (i + 1) items)
   next_left = ap (behind program) (drop_more items i item within ∙ ap (λ x. x ∷ drop (i + 1) items) (sym is))
@@ -200,42 +255,53 @@ module _ (form : Form) (p : PlainDomain) (limit : ℕ) (givens : List (Result Pr
       → Wrote form p limit givens before now (judged program item ∷ behind (kept program (judged program item)) (drop (i + 1) items)) number are_tables
   at_next wrote = subst (λ l. Wrote form p limit givens before now l number are_tables) next_left wrote
 
-  pub item_more : (next : Option (List ℕ)) (shows : Bool) (changed : ProgramView) → Wrote form p limit givens before now (behind program (drop i items)) number are_tables
+  pub item_more : (next : Option (List ℕ)) (shows : Bool) (changed : ProgramView)
+      → Wrote form p limit givens before now (behind program (drop i items)) number are_tables
       → WritesBlock form p limit number (judged program item) now next (Ok shows) → changed ≡ kept program (judged program item) → IsWellFormed changed
       → Wrote form p limit givens before next (behind changed (drop (i + 1) items)) (number + 1) (are_tables && shows)
   item_more next shows changed wrote writes same well =
       subst (λ g. Wrote form p limit givens before next (behind g (drop (i + 1) items)) (number + 1) (are_tables && shows)) (sym same)
-      (wrote_more p limit form givens before now (judged program item) (behind (kept program (judged program item)) (drop (i + 1) items)) number are_tables (at_next wrote) (kept_well (judged program item) changed same well) next shows writes)
+      (wrote_more p limit form givens before now (judged program item) (behind (kept program (judged program item)) (drop (i + 1) items)) number are_tables
+      (at_next wrote) (kept_well (judged program item) changed same well) next shows writes)
 
   pub item_stops : (next : Option (List ℕ)) (stop : Stop) → Wrote form p limit givens before now (behind program (drop i items)) number are_tables
       → WritesBlock form p limit number (judged program item) now next (Err stop) → WritesBlocks form p limit givens before next (Err stop)
   item_stops next stop wrote writes =
-      wrote_stops p limit form givens before now (judged program item) (behind (kept program (judged program item)) (drop (i + 1) items)) number are_tables (at_next wrote) next stop writes
+      wrote_stops p limit form givens before now (judged program item) (behind (kept program (judged program item)) (drop (i + 1) items)) number are_tables
+      (at_next wrote) next stop writes
 
 module _ (form : Form) (p : PlainDomain) (limit : ℕ) (givens : List (Result ProgramView EditCause)) (before now : Option (List ℕ)) (program : ProgramView)
     (items : List (Result Edit EditCause)) where
   pub items_end : (i number : ℕ) (are_tables : Bool) → Wrote form p limit givens before now (behind program (drop i items)) number are_tables → length items ≤ i
       → WritesBlocks form p limit givens before now (Ok (cond are_tables 0 1))
   items_end i number are_tables wrote past =
-      wrote_all p limit form givens before now number are_tables (subst (λ l. Wrote form p limit givens before now (behind program l) number are_tables) (drop_all i items past) wrote)
+      wrote_all p limit form givens before now number are_tables
+      (subst (λ l. Wrote form p limit givens before now (behind program l) number are_tables) (drop_all i items past) wrote)
 
 -- the same domain and limit
-pub block_for : {D : Type 0} (form : Form) (plain : D → PlainDomain) (own domain : D) (most limit number : ℕ) (given : Result ProgramView EditCause) (now next : Option (List ℕ)) (result : Result Bool Stop)
-    → own ≡ domain → most ≡ limit → WritesBlock form (plain own) most number given now next result → WritesBlock form (plain domain) limit number given now next result
+pub block_for : {D : Type 0} (form : Form) (plain : D → PlainDomain) (own domain : D) (most limit number : ℕ) (given : Result ProgramView EditCause)
+    (now next : Option (List ℕ)) (result : Result Bool Stop)
+    → own ≡ domain → most ≡ limit → WritesBlock form (plain own) most number given now next result
+    → WritesBlock form (plain domain) limit number given now next result
 block_for form plain own domain most limit number given now next result same also writes =
-    subst (λ n. WritesBlock form (plain domain) n number given now next result) also (subst (λ d. WritesBlock form (plain d) most number given now next result) same writes)
+    subst (λ n. WritesBlock form (plain domain) n number given now next result) also
+    (subst (λ d. WritesBlock form (plain d) most number given now next result) same writes)
 
 -- ---- the first block
 
-pub first_written : (form : Form) (p : PlainDomain) (limit : ℕ) (given : Result ProgramView EditCause) (left : List (Result ProgramView EditCause)) (before now : Option (List ℕ)) (shows : Bool)
+pub first_written : (form : Form) (p : PlainDomain) (limit : ℕ) (given : Result ProgramView EditCause) (left : List (Result ProgramView EditCause))
+    (before now : Option (List ℕ)) (shows : Bool)
     → IfOk given IsWellFormed → WritesBlock form p limit 0 given before now (Ok shows) → Wrote form p limit (given ∷ left) before now left 1 shows
 first_written form p limit given left before now shows well writes =
-    wrote_more p limit form (given ∷ left) before before given left 0 true (nothing_written p limit form (given ∷ left) before (nothing_more before)) well now shows writes
+    wrote_more p limit form (given ∷ left) before before given left 0 true (nothing_written p limit form (given ∷ left) before (nothing_more before)) well now
+    shows writes
 
-pub first_stops : (form : Form) (p : PlainDomain) (limit : ℕ) (given : Result ProgramView EditCause) (left : List (Result ProgramView EditCause)) (before now : Option (List ℕ)) (stop : Stop)
+pub first_stops : (form : Form) (p : PlainDomain) (limit : ℕ) (given : Result ProgramView EditCause) (left : List (Result ProgramView EditCause))
+    (before now : Option (List ℕ)) (stop : Stop)
     → WritesBlock form p limit 0 given before now (Err stop) → WritesBlocks form p limit (given ∷ left) before now (Err stop)
 first_stops form p limit given left before now stop writes =
-    wrote_stops p limit form (given ∷ left) before before given left 0 true (nothing_written p limit form (given ∷ left) before (nothing_more before)) now stop writes
+    wrote_stops p limit form (given ∷ left) before before given left 0 true (nothing_written p limit form (given ∷ left) before (nothing_more before))
+    now stop writes
 
 -- there is no first block
 pub none_written : (form : Form) (p : PlainDomain) (limit : ℕ) (givens : List (Result ProgramView EditCause)) (taken : Option (List ℕ))

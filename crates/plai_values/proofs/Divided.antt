@@ -1,5 +1,29 @@
 -- What is read of a division's answer in the code.
-use Rattle.std.proofs.Common.{◌≡◌, ◌≢◌, ℤ, pos, ◌+ℤ◌, int_rem, int_lt, Bool, true, false, if◌then◌else◌, Option, Some, None, rules, refl, ap, sym, ◌∙◌, subst, FitsSigned, to_z, of_z}
+use Rattle.std.proofs.Common.{
+  ◌≡◌,
+  ◌≢◌,
+  ℤ,
+  pos,
+  ◌+ℤ◌,
+  int_rem,
+  int_lt,
+  Bool,
+  true,
+  false,
+  if◌then◌else◌,
+  Option,
+  Some,
+  None,
+  rules,
+  refl,
+  ap,
+  sym,
+  ◌∙◌,
+  subst,
+  FitsSigned,
+  to_z,
+  of_z,
+}
 use Rattle.std.specs.Ordering.{int_eq}
 use Rattle.std.specs.Int.{w128}
 use Rattle.std.proofs.lemmas.Int.{to_z-of_z}
@@ -35,7 +59,8 @@ module _ (x y r : ℤ) (f : FitsSigned w128 x) (g : FitsSigned w128 y) (e : Some
   other_read n h = n (ap (of_z w128) (left.1 ∙ h))
 
   signs : (b : Bool) → beq (int_lt (read r) (pos 0)) (int_lt (read y) (pos 0)) ≡ b → beq (int_lt (int_rem x y) (pos 0)) (int_lt y (pos 0)) ≡ b
-  signs b h = sym (ap (λ a. beq (int_lt a (pos 0)) (int_lt (read y) (pos 0))) (to_z-of_z w128 r fits ∙ left.1) ∙ ap (λ a. beq (int_lt (int_rem x y) (pos 0)) (int_lt a (pos 0))) (to_z-of_z w128 y g)) ∙ h
+  signs b h = sym (ap (λ a. beq (int_lt a (pos 0)) (int_lt (read y) (pos 0))) (to_z-of_z w128 r fits ∙ left.1)
+      ∙ ap (λ a. beq (int_lt (int_rem x y) (pos 0)) (int_lt a (pos 0))) (to_z-of_z w128 y g)) ∙ h
 
   pub modulo_zero : of_z w128 r ≡ 0 → Some (pos 0) ≡ divided modulo x y
   modulo_zero h = answer (pos 0) (search rules) (m.modulo_zero x y divisor (sym left.1 ∙ zero_read h))
@@ -43,7 +68,9 @@ module _ (x y r : ℤ) (f : FitsSigned w128 x) (g : FitsSigned w128 y) (e : Some
   pub modulo_same : (of_z w128 r ≡ 0 → ⊥) → beq (int_lt (read r) (pos 0)) (int_lt (read y) (pos 0)) ≡ true → Some (read r) ≡ divided modulo x y
   modulo_same n h = ap Some (to_z-of_z w128 r fits) ∙ answer r fits (m.modulo_same x y divisor (other_read n) (signs true h) ∙ sym left.1)
 
-  pub modulo_other : (of_z w128 r ≡ 0 → ⊥) → beq (int_lt (read r) (pos 0)) (int_lt (read y) (pos 0)) ≡ false → FitsSigned w128 (read r +ℤ read y) → Some (read (read r +ℤ read y)) ≡ divided modulo x y
+  pub modulo_other : (of_z w128 r ≡ 0 → ⊥) → beq (int_lt (read r) (pos 0)) (int_lt (read y) (pos 0)) ≡ false → FitsSigned w128 (read r +ℤ read y)
+      → Some (read (read r +ℤ read y)) ≡ divided modulo x y
   modulo_other n h k =
-      let same : read r +ℤ read y ≡ int_rem x y +ℤ y = ap (λ a. a +ℤ read y) (to_z-of_z w128 r fits ∙ left.1) ∙ ap (λ a. int_rem x y +ℤ a) (to_z-of_z w128 y g) in
+      let same : read r +ℤ read y ≡ int_rem x y +ℤ y =
+      ap (λ a. a +ℤ read y) (to_z-of_z w128 r fits ∙ left.1) ∙ ap (λ a. int_rem x y +ℤ a) (to_z-of_z w128 y g) in
       ap Some (to_z-of_z w128 (read r +ℤ read y) k) ∙ answer (read r +ℤ read y) k (m.modulo_other x y divisor (other_read n) (signs false h) ∙ sym same)

@@ -1,5 +1,28 @@
 -- The values of terms, level by level.
-use Rattle.std.proofs.Common.{◌≡◌, ℕ, ℤ, List, [], ◌++◌, map, reverse, length, ◌<◌, ◌-◌, get_or, Bor, Option, Some, None, rules, sym, ap, ◌∙◌, subst, FitsSigned}
+use Rattle.std.proofs.Common.{
+  ◌≡◌,
+  ℕ,
+  ℤ,
+  List,
+  [],
+  ◌++◌,
+  map,
+  reverse,
+  length,
+  ◌<◌,
+  ◌-◌,
+  get_or,
+  Bor,
+  Option,
+  Some,
+  None,
+  rules,
+  sym,
+  ap,
+  ◌∙◌,
+  subst,
+  FitsSigned,
+}
 use Rattle.std.specs.Int.{w128}
 use Rattle.std.specs.Option.{option_flatten}
 use Rattle.std.proofs.lemmas.Int.{to_z-of_z}
@@ -43,7 +66,8 @@ at_integer t n stack others e f h = (
 -- what a call that takes the arguments' values ensures, at a compound
 pub at_compound : (t : Term) (name : List ℕ) (args : List Term) (words : List ℕ) (items : List Term) (stack left others : List (Option ℤ)) (r : Option ℤ)
     → t ≡ Compound name args → words ≡ name → items ≡ args
-    → ((taken others : List (Option ℤ)) → length taken ≡ length items → reverse stack ≡ taken ++ others → (r ≡ functor_value words taken) × (reverse left ≡ others))
+    → ((taken others : List (Option ℤ)) → length taken ≡ length items → reverse stack ≡ taken ++ others
+    → (r ≡ functor_value words taken) × (reverse left ≡ others))
     → reverse stack ≡ map value_of (arguments_of t) ++ others → (r ≡ value_of t) × (reverse left ≡ others)
 at_compound t name args words items stack left others r e w i f h =
     let given : reverse stack ≡ map value_of args ++ others = h ∙ ap (λ us. map value_of us ++ others) (ap arguments_of e ∙ arguments_of-Compound name args) in
@@ -54,4 +78,5 @@ pub at_end : (t : Term) (nodes : List (Bor Term)) (stack : List (Option ℤ)) (n
     → IsBack value_of t (referred nodes) (reverse stack) → nodes ≡ [] → n ≡ length stack
     → ((d : Option ℤ) → 0 < n → top ≡ Some (get_or stack (n - 1) d)) → r ≡ option_flatten top → r ≡ value_of t
 at_end t nodes stack n top r b none k h e =
-    e ∙ ap option_flatten (on_top stack n top (value_of t) k (back_ends value_of t (reverse stack) (subst (λ ns. IsBack value_of t (referred ns) (reverse stack)) none b)) h)
+    e ∙ ap option_flatten (on_top stack n top (value_of t) k
+    (back_ends value_of t (reverse stack) (subst (λ ns. IsBack value_of t (referred ns) (reverse stack)) none b)) h)

@@ -1,5 +1,31 @@
 -- What the quotient rounded down leaves, by what the quotient rounded towards zero leaves.
-use Rattle.std.proofs.Common.{◌≡◌, ◌≢◌, nat_lt, ◌<◌, ◌-◌, ◌%◌, ℕ, zero, suc, ℤ, pos, negsuc, ◌+ℤ◌, neg_ℤ, int_rem, int_lt, Bool, true, false, arith, refl, ap, sym, ◌∙◌, subst}
+use Rattle.std.proofs.Common.{
+  ◌≡◌,
+  ◌≢◌,
+  nat_lt,
+  ◌<◌,
+  ◌-◌,
+  ◌%◌,
+  ℕ,
+  zero,
+  suc,
+  ℤ,
+  pos,
+  negsuc,
+  ◌+ℤ◌,
+  neg_ℤ,
+  int_rem,
+  int_lt,
+  Bool,
+  true,
+  false,
+  arith,
+  refl,
+  ap,
+  sym,
+  ◌∙◌,
+  subst,
+}
 use Rattle.std.specs.Ordering.{int_eq}
 use Rattle.std.proofs.lemmas.Bool.{ltb-true, ltb-false}
 use Rattle.std.proofs.lemmas.Bool.Decides.{nat_tests}
@@ -75,7 +101,8 @@ modulo_zero (pos zero) (negsuc m) n e = left_zero_neg m
 modulo_zero (pos (suc a)) (negsuc m) n e = left_pos_neg a m ∙ pos_neg_zero m (a % suc m) (suc a % suc m) (next a m) e
 modulo_zero (negsuc a) (negsuc m) n e = left_neg_neg a m ∙ e
 
-pub modulo_same : (x y : ℤ) → int_eq y (pos 0) ≡ false → int_rem x y ≢ pos 0 → beq (int_lt (int_rem x y) (pos 0)) (int_lt y (pos 0)) ≡ true → modulo x y ≡ int_rem x y
+pub modulo_same : (x y : ℤ) → int_eq y (pos 0) ≡ false → int_rem x y ≢ pos 0 → beq (int_lt (int_rem x y) (pos 0)) (int_lt y (pos 0)) ≡ true
+    → modulo x y ≡ int_rem x y
 modulo_same x (pos zero) n h e = cc
 modulo_same (pos a) (pos (suc m)) n h e = left_pos_pos a m
 modulo_same (negsuc a) (pos (suc m)) n h e = left_neg_pos a m ∙ neg_pos_same m (a % suc m) (suc a % suc m) (next a m) h e
@@ -83,7 +110,8 @@ modulo_same (pos zero) (negsuc m) n h e = absurd (h (ap pos (mod-eq_of_lt (omega
 modulo_same (pos (suc a)) (negsuc m) n h e = let f = none_below_zero (suc a % suc m) in cc
 modulo_same (negsuc a) (negsuc m) n h e = left_neg_neg a m
 
-pub modulo_other : (x y : ℤ) → int_eq y (pos 0) ≡ false → int_rem x y ≢ pos 0 → beq (int_lt (int_rem x y) (pos 0)) (int_lt y (pos 0)) ≡ false → modulo x y ≡ int_rem x y +ℤ y
+pub modulo_other : (x y : ℤ) → int_eq y (pos 0) ≡ false → int_rem x y ≢ pos 0 → beq (int_lt (int_rem x y) (pos 0)) (int_lt y (pos 0)) ≡ false
+    → modulo x y ≡ int_rem x y +ℤ y
 modulo_other x (pos zero) n h e = cc
 modulo_other (pos a) (pos (suc m)) n h e = let f = none_below_zero (suc m) in let g = none_below_zero (a % suc m) in cc
 modulo_other (negsuc a) (pos (suc m)) n h e = left_neg_pos a m ∙ neg_pos_other m (a % suc m) (suc a % suc m) (next a m) h

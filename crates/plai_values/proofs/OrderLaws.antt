@@ -42,7 +42,8 @@ arguments_tie (x ∷ xs) (y ∷ ys) h e =
 
 levels_tie : (x y : Term-F Term) → AllByRecursion IsTied (arguments x) → level_order (lifted x) y ≡ Equal → x ≡ y
 levels_tie (Term-F.Compound a xs) (Term-F.Compound b ys) h e =
-    let t = both_tied (nat_cmp (length (map term_order xs)) (length ys)) (ordering_then (text_order a b) (slice_cmp (λ order t. order t) (map term_order xs) ys)) e in
+    let t = both_tied (nat_cmp (length (map term_order xs)) (length ys))
+    (ordering_then (text_order a b) (slice_cmp (λ order t. order t) (map term_order xs) ys)) e in
     let u = both_tied (text_order a b) (slice_cmp (λ order t. order t) (map term_order xs) ys) t.1 in
     let p = texts_tie a b u.0 in
     let q = arguments_tie xs ys h u.1 in
@@ -88,7 +89,9 @@ abbrev keyed : Term-F Term → Term-F Term → Ordering
 keyed = then_cmp (on kind nat_cmp) (then_cmp (on number nat_cmp) (then_cmp (on integer int_cmp) (then_cmp (on arity nat_cmp) (on name text_order))))
 
 keyed_total : IsTotalOrder keyed
-keyed_total = then_total (on_total kind nat_cmp_total) (then_total (on_total number nat_cmp_total) (then_total (on_total integer int_cmp_total) (then_total (on_total arity nat_cmp_total) (on_total name nat_list_cmp_total))))
+keyed_total = then_total (on_total kind nat_cmp_total)
+    (then_total (on_total number nat_cmp_total)
+    (then_total (on_total integer int_cmp_total) (then_total (on_total arity nat_cmp_total) (on_total name nat_list_cmp_total))))
 
 keyed_is : (x y : Term-F Term) → keyed x y ≡ node_level x y
 keyed_is (Term-F.Var v) (Term-F.Var w) = then_Equal (nat_cmp v w)

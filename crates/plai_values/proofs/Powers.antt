@@ -1,5 +1,42 @@
 -- Powers, and products with powers of two, beyond 128 bits.
-use Rattle.std.proofs.Common.{◌≡◌, ◌<◌, ◌≤◌, ◌+◌, ◌-◌, ◌*◌, ◌/◌, ◌%◌, ◌^◌, ◌==◌, ℕ, zero, suc, ℤ, pos, negsuc, ◌*ℤ◌, neg_ℤ, unsigned_abs, int_lt, Bool, true, false, cond, if◌then◌else◌, nat_lt, Option, None, SomeIff, arith, refl, ap, sym, ◌∙◌, subst, FitsSigned}
+use Rattle.std.proofs.Common.{
+  ◌≡◌,
+  ◌<◌,
+  ◌≤◌,
+  ◌+◌,
+  ◌-◌,
+  ◌*◌,
+  ◌/◌,
+  ◌%◌,
+  ◌^◌,
+  ◌==◌,
+  ℕ,
+  zero,
+  suc,
+  ℤ,
+  pos,
+  negsuc,
+  ◌*ℤ◌,
+  neg_ℤ,
+  unsigned_abs,
+  int_lt,
+  Bool,
+  true,
+  false,
+  cond,
+  if◌then◌else◌,
+  nat_lt,
+  Option,
+  None,
+  SomeIff,
+  arith,
+  refl,
+  ap,
+  sym,
+  ◌∙◌,
+  subst,
+  FitsSigned,
+}
 use Rattle.std.specs.Int.{w128, int_pow}
 use Rattle.std.proofs.lemmas.Bool.{ltb-false}
 use Rattle.std.proofs.lemmas.Int.{to_z-of_z}
@@ -82,7 +119,8 @@ far_from m false h = out_of_range (neg_ℤ (pos m)) (omega (arith, mag-neg m))
 same_power : (x : ℤ) (d e : ℕ) → 128 ≤ d → 128 ≤ e → d % 2 ≡ e % 2 → in_range (int_pow x d) ≡ in_range (int_pow x e)
 same_power (pos zero) d e h k p = ap (λ n. in_range (pos n)) (zero_pow d (omega arith) ∙ sym (zero_pow e (omega arith)))
 same_power (pos (suc zero)) d e h k p = ap (λ n. in_range (pos n)) (one_pow d ∙ sym (one_pow e))
-same_power (pos (suc (suc n))) d e h k p = out_of_range (pos (suc (suc n) ^ d)) (omega (arith, far n d h)) ∙ sym (out_of_range (pos (suc (suc n) ^ e)) (omega (arith, far n e k)))
+same_power (pos (suc (suc n))) d e h k p =
+    out_of_range (pos (suc (suc n) ^ d)) (omega (arith, far n d h)) ∙ sym (out_of_range (pos (suc (suc n) ^ e)) (omega (arith, far n e k)))
 same_power (negsuc zero) d e h k p =
     ap (λ n. in_range (cond (d % 2 == 0) (pos n) (neg_ℤ (pos n)))) (one_pow d ∙ sym (one_pow e))
     ∙ ap (λ b. in_range (cond (b == 0) (pos (1 ^ e)) (neg_ℤ (pos (1 ^ e))))) p

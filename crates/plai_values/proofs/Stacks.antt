@@ -9,7 +9,8 @@ module _ {A : Type 0} (stack taken others : List A) (kept : ℕ)
   parted = sym (reverse-reverse stack) ∙ ap reverse e ∙ reverse-append taken others
 
   lengths : length stack ≡ length others + length taken
-  lengths = ap length parted ∙ length-append (reverse others) (reverse taken) ∙ ap (λ n. n + length (reverse taken)) (length-reverse others) ∙ ap (λ n. length others + n) (length-reverse taken)
+  lengths = ap length parted ∙ length-append (reverse others) (reverse taken) ∙ ap (λ n. n + length (reverse taken)) (length-reverse others)
+      ∙ ap (λ n. length others + n) (length-reverse taken)
 
   seam : kept ≡ length (reverse others)
   seam = k ∙ omega (arith, lengths) ∙ sym (length-reverse others)

@@ -72,7 +72,8 @@ forest (t ∷ ts) (u ∷ us) h e rest others =
     ∙ sym (then_then (term_order t u) (slice_cmp (λ order t. order t) (map term_order ts) us) (slice_cmp node_order rest others))
 
 -- by number of arguments and name, and then by what follows
-by_heads : (o p r s q : Ordering) → (o ≡ Equal → r ≡ ordering_then s q) → ordering_then (ordering_then o p) r ≡ ordering_then (ordering_then o (ordering_then p s)) q
+by_heads : (o p r s q : Ordering) → (o ≡ Equal → r ≡ ordering_then s q)
+    → ordering_then (ordering_then o p) r ≡ ordering_then (ordering_then o (ordering_then p s)) q
 by_heads Less p r s q h = refl
 by_heads Equal p r s q h = ap (ordering_then p) (h refl) ∙ sym (then_then p s q)
 by_heads Greater p r s q h = refl
@@ -85,7 +86,8 @@ levels (Term-F.Compound a xs) (Term-F.Compound b ys) h rest others =
     (slice_cmp node_order (flat_map preorder xs ++ rest) (flat_map preorder ys ++ others))
     (slice_cmp (λ order t. order t) (map term_order xs) ys) (slice_cmp node_order rest others)
     (λ e. forest xs ys h (numbers_tie (length xs) (length ys) e) rest others)
-    ∙ ap (λ n. ordering_then (ordering_then (nat_cmp n (length ys)) (ordering_then (text_order a b) (slice_cmp (λ order t. order t) (map term_order xs) ys))) (slice_cmp node_order rest others))
+    ∙ ap (λ n. ordering_then (ordering_then (nat_cmp n (length ys)) (ordering_then (text_order a b) (slice_cmp (λ order t. order t) (map term_order xs) ys)))
+    (slice_cmp node_order rest others))
     (sym (length-map xs term_order))
 levels (Term-F.Var v) (Term-F.Var w) h rest others = refl
 levels (Term-F.Int v) (Term-F.Int w) h rest others = refl
@@ -96,17 +98,20 @@ preorder-roll : (x : Term-F Term) (rest : List Term) → preorder (roll-Term x) 
 preorder-roll x rest = ap (λ s. s ++ rest) (preorder_is (roll-Term x)) ∙ ap (λ us. roll-Term x ∷ (flat_map preorder us ++ rest)) (arguments_of-roll x)
 
 rolled : (x y : Term-F Term) → AllByRecursion IsCompared (arguments x) → (rest others : List Term)
-    → slice_cmp node_order (preorder (roll-Term x) ++ rest) (preorder (roll-Term y) ++ others) ≡ ordering_then (term_order (roll-Term x) (roll-Term y)) (slice_cmp node_order rest others)
+    → slice_cmp node_order (preorder (roll-Term x) ++ rest) (preorder (roll-Term y) ++ others)
+    ≡ ordering_then (term_order (roll-Term x) (roll-Term y)) (slice_cmp node_order rest others)
 rolled x y h rest others =
     ap (λ s. slice_cmp node_order s (preorder (roll-Term y) ++ others)) (preorder-roll x rest)
     ∙ ap (λ s. slice_cmp node_order (roll-Term x ∷ (flat_map preorder (pre.arguments x) ++ rest)) s) (preorder-roll y others)
-    ∙ ap (λ o. ordering_then o (slice_cmp node_order (flat_map preorder (pre.arguments x) ++ rest) (flat_map preorder (pre.arguments y) ++ others))) (node_order-roll x y)
+    ∙ ap (λ o. ordering_then o (slice_cmp node_order (flat_map preorder (pre.arguments x) ++ rest) (flat_map preorder (pre.arguments y) ++ others)))
+    (node_order-roll x y)
     ∙ levels x y h rest others
     ∙ ap (λ o. ordering_then o (slice_cmp node_order rest others)) (sym (term_order-roll x y))
 
 compared : (t : Term) → IsCompared t
 compared = induction_by_levels IsCompared (λ x h u rest others.
-    subst (λ w. slice_cmp node_order (preorder (roll-Term x) ++ rest) (preorder w ++ others) ≡ ordering_then (term_order (roll-Term x) w) (slice_cmp node_order rest others))
+    subst (λ w. slice_cmp node_order (preorder (roll-Term x) ++ rest) (preorder w ++ others)
+    ≡ ordering_then (term_order (roll-Term x) w) (slice_cmp node_order rest others))
     (roll-out-Term u) (rolled x (out-Term u) h rest others))
 
 pub order_by_subterms : (t u : Term) → slice_cmp node_order (preorder t) (preorder u) ≡ term_order t u

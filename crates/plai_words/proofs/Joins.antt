@@ -207,7 +207,8 @@ module _ (fs : List (List ℕ)) where
     where
       all : IsNever (both (Some (record { domains = e ∷ []; depths = p; rows = r; makes = m; files = fs })) (Some (record nothing { domains = d ∷ [] })))
       all None = refl
-      all (Some g) = repeated (joined (joined (record { domains = e ∷ []; depths = p; rows = r; makes = m; files = fs }) (record nothing { domains = d ∷ [] })) g) refl
+      all (Some g) = repeated (joined (joined (record { domains = e ∷ []; depths = p; rows = r; makes = m; files = fs })
+          (record nothing { domains = d ∷ [] })) g) refl
 
   two_depths : (d : Option (List DomainName)) (y x : Option ℕ) (r m : Option (List ℕ))
       → IsNever (both (given_by d (option_map (λ (n : ℕ). n ∷ []) y) r m fs) (option_map (λ (n : ℕ). record nothing { depths = n ∷ [] }) x))
@@ -221,7 +222,8 @@ module _ (fs : List (List ℕ)) where
       all : IsNever (both (Some (record { domains = d; depths = k ∷ []; rows = r; makes = m; files = fs })) (Some (record nothing { depths = n ∷ [] })))
       all None = refl
       all (Some g) =
-          let whole : Given = joined (joined (record { domains = d; depths = k ∷ []; rows = r; makes = m; files = fs }) (record nothing { depths = n ∷ [] })) g in
+          let whole : Given = joined (joined (record { domains = d; depths = k ∷ []; rows = r; makes = m; files = fs })
+          (record nothing { depths = n ∷ [] })) g in
           repeated whole (repeated_depth whole refl)
 
   two_rows : (d : Option (List DomainName)) (p : Option (List ℕ)) (y x : Option ℕ) (m : Option (List ℕ))
@@ -251,7 +253,8 @@ module _ (fs : List (List ℕ)) where
       all : IsNever (both (Some (record { domains = d; depths = p; rows = r; makes = k ∷ []; files = fs })) (Some (record nothing { makes = n ∷ [] })))
       all None = refl
       all (Some g) =
-          let whole : Given = joined (joined (record { domains = d; depths = p; rows = r; makes = k ∷ []; files = fs }) (record nothing { makes = n ∷ [] })) g in
+          let whole : Given = joined (joined (record { domains = d; depths = p; rows = r; makes = k ∷ []; files = fs })
+          (record nothing { makes = n ∷ [] })) g in
           repeated whole (repeated_make whole refl)
 
 pub twice : (key : Key) (v u : List ℕ) (t : Taken) → t.values key ≡ Some u → IsNever (both (taken_given t) (said key v))

@@ -4,7 +4,27 @@ use Rattle.std.specs.Prelude.{if◌then◌else◌, nat_lt}
 use Rattle.std.specs.Option.{option_map_or}
 use Rattle.clap.specs.Kinds.{Kinds, or_else}
 use Rattle.clap.specs.Faults.{bundle_fault, long_fault, turn_fault, use_fault, walk_fault, word_fault}
-use Rattle.clap.specs.Walk.{Held, Row, Rule, Step, Text, Waiting, Walk, idle, next, option as waits_for, option_word, pending_count, plain_word, positional, short_or_plain, used, value, walked, word_met}
+use Rattle.clap.specs.Walk.{
+  Held,
+  Row,
+  Rule,
+  Step,
+  Text,
+  Waiting,
+  Walk,
+  idle,
+  next,
+  option as waits_for,
+  option_word,
+  pending_count,
+  plain_word,
+  positional,
+  short_or_plain,
+  used,
+  value,
+  walked,
+  word_met,
+}
 use Rattle.clap.specs.declared.error.kind.ErrorKind.TheVariants.{UnknownArgument}
 use Rattle.plai_words.specs.Given.{Given, both, said, given}
 use Rattle.plai_words.specs.Options.{Key, Domain, Depth, Rows, Make, has_bundle, is_dashed}
@@ -12,8 +32,77 @@ use Rattle.plai_words.specs.Line.{name_of, files_id}
 use Rattle.plai_words.specs.Taken.{Taken, taken_given}
 use Rattle.plai_words.proofs.Joins.{both_assoc, files, finish, none_more, option}
 use Rattle.plai_words.proofs.Rows.{Holds, taker}
-use Rattle.plai_words.proofs.Shapes.{IsPlainWord, IsStray, Word, all_rules, by_id, by_long, dashes, ends, gives, names, option_dashed, plain, short, stray, word_of}
-use Rattle.plai_words.proofs.Walks.{Awaits, Open, Pend, Reads, Settles, Waits, at_end, behind_end, clear_after, doomed, fault_at, fault_by, fault_is, file_joins, given_dashed, given_ends, given_gives, given_names, given_plain, given_stray, given_value, go_on, held_at, left_nil, long_value, long_word_by, met_by, met_is, gathers, gather_fault, name_no_end, name_turn, name_walked, no_short, no_value_fault, not_nil, or_nil, pend_given, pending_as, rows_at, rows_is, settle, settle_option, shape, stop, turn_is, value_is_no_end, value_no_end, waiting_at, walk_at, walked_is, word_fault_is}
+use Rattle.plai_words.proofs.Shapes.{
+  IsPlainWord,
+  IsStray,
+  Word,
+  all_rules,
+  by_id,
+  by_long,
+  dashes,
+  ends,
+  gives,
+  names,
+  option_dashed,
+  plain,
+  short,
+  stray,
+  word_of,
+}
+use Rattle.plai_words.proofs.Walks.{
+  Awaits,
+  Open,
+  Pend,
+  Reads,
+  Settles,
+  Waits,
+  at_end,
+  behind_end,
+  clear_after,
+  doomed,
+  fault_at,
+  fault_by,
+  fault_is,
+  file_joins,
+  given_dashed,
+  given_ends,
+  given_gives,
+  given_names,
+  given_plain,
+  given_stray,
+  given_value,
+  go_on,
+  held_at,
+  left_nil,
+  long_value,
+  long_word_by,
+  met_by,
+  met_is,
+  gathers,
+  gather_fault,
+  name_no_end,
+  name_turn,
+  name_walked,
+  no_short,
+  no_value_fault,
+  not_nil,
+  or_nil,
+  pend_given,
+  pending_as,
+  rows_at,
+  rows_is,
+  settle,
+  settle_option,
+  shape,
+  stop,
+  turn_is,
+  value_is_no_end,
+  value_no_end,
+  waiting_at,
+  walk_at,
+  walked_is,
+  word_fault_is,
+}
 
 right_nil : (a b : Kinds) → or_else a b ≡ [] → b ≡ []
 right_nil [] b e = e
@@ -67,7 +156,8 @@ plain_met rows pending waiting word p =
 plain_fault : (rows : List Row) (pending : Waits) (waiting : Waiting) (word : Text) → IsPlainWord word
     → word_fault shape [] false waiting word (held_at rows pending) ≡ []
 plain_fault rows pending waiting word p =
-    fault_by waiting word (held_at rows pending) None p.apart p.long ∙ ap (λ (o : Option Text). option_map_or (λ flags. bundle_fault all_rules false flags (held_at rows pending)) o []) p.short
+    fault_by waiting word (held_at rows pending) None p.apart p.long
+    ∙ ap (λ (o : Option Text). option_map_or (λ flags. bundle_fault all_rules false flags (held_at rows pending)) o []) p.short
 
 plain_at : (p : Pend) (word : Text) (h : Held) → plain_word all_rules (waiting_at p) word h ≡ (h, value)
 plain_at None word h = refl
@@ -174,7 +264,8 @@ module _ (words : List Text) (before : Open words) (awaits : Awaits words) where
 
       onward : walked all_rules [] (walk_at rows (pending_as p) (waiting_at p) false) word
           ≡ walk_at (rows_at rows (pending_as p)) (Some (files_id, word ∷ [])) positional false
-      onward = walked_is rows (pending_as p) (waiting_at p) false word (held_at rows (pending_as p), value) met ∙ gathers rows (pending_as p) (waiting_at p) false word
+      onward = walked_is rows (pending_as p) (waiting_at p) false word (held_at rows (pending_as p), value) met
+          ∙ gathers rows (pending_as p) (waiting_at p) false word
 
       go : Settles t rows p → Reads (walk_at rows (pending_as p) (waiting_at p) false) (word ∷ words) (both (pend_given t p) (given (word ∷ words) None))
       go (inl s) = go_on _ _ word words _ onward (turn ∙ s.0)
@@ -204,8 +295,10 @@ module _ (words : List Text) (before : Open words) (awaits : Awaits words) where
     unfolding is_dashed
     await_ends =
         go_on _ _ dashes words _
-        (walked_is rows (Some (name_of key, [])) (waits_for (name_of key)) false dashes _ (met_is (waits_for (name_of key)) dashes (held_at rows (Some (name_of key, [])))))
-        (turn_is rows (Some (name_of key, [])) (waits_for (name_of key)) false dashes _ [] (met_is (waits_for (name_of key)) dashes (held_at rows (Some (name_of key, []))))
+        (walked_is rows (Some (name_of key, [])) (waits_for (name_of key)) false dashes _
+        (met_is (waits_for (name_of key)) dashes (held_at rows (Some (name_of key, [])))))
+        (turn_is rows (Some (name_of key, [])) (waits_for (name_of key)) false dashes _ []
+        (met_is (waits_for (name_of key)) dashes (held_at rows (Some (name_of key, []))))
         (word_fault_is (waits_for (name_of key)) dashes (held_at rows (Some (name_of key, [])))))
         (inr (doomed words rows key (waits_for (name_of key)), never dashes refl))
 

@@ -87,7 +87,8 @@ with_more : (id : Text) (old values : List Text) (rows : List Row) → find_row 
 with_more id old values [] e = cc
 with_more id old values (r ∷ rs) e = go (bytes_eq r.id id) refl (λ k. with_more id old values rs k)
   where
-    go : (b : Bool) → bytes_eq r.id id ≡ b → (find_row id rs ≡ Some (row id old) → find_row id (with_values id AsWritten CommandLine values rs) ≡ Some (row id (old ++ values)))
+    go : (b : Bool) → bytes_eq r.id id ≡ b → (find_row id rs ≡ Some (row id old)
+        → find_row id (with_values id AsWritten CommandLine values rs) ≡ Some (row id (old ++ values)))
         → find_row id (with_values id AsWritten CommandLine values (r ∷ rs)) ≡ Some (row id (old ++ values))
     go true h before =
         let is : Some r ≡ Some (row id old) = rw h at e in

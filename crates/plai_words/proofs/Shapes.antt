@@ -1,5 +1,32 @@
 -- What clap's lexer and our definitions say of one word.
-use Rattle.std.proofs.Common.{◌≡◌, ◌⊎◌, ℕ, ◌+◌, List, [], ◌∷◌, ◌++◌, Bool, Option, None, Some, true, false, refl, ap, sym, ◌∙◌, subst, inl, inr, length, take, drop, suc, arith}
+use Rattle.std.proofs.Common.{
+  ◌≡◌,
+  ◌⊎◌,
+  ℕ,
+  ◌+◌,
+  List,
+  [],
+  ◌∷◌,
+  ◌++◌,
+  Bool,
+  Option,
+  None,
+  Some,
+  true,
+  false,
+  refl,
+  ap,
+  sym,
+  ◌∙◌,
+  subst,
+  inl,
+  inr,
+  length,
+  take,
+  drop,
+  suc,
+  arith,
+}
 use Rattle.std.specs.Prelude.{◌==◌, ◌&&◌, not, nat_eq, nat_lt}
 use Rattle.std.specs.List.{starts_with, before_first, prefix_len}
 use Rattle.std.specs.Str.{bytes_eq}

@@ -8,7 +8,38 @@ use Rattle.clap.specs.Lexer.{long_of}
 use Rattle.clap.specs.Kinds.{Kinds, or_else}
 use Rattle.clap.specs.Faults.{flag_word_fault, long_fault, other_fault, settle_fault, step_fault, turn_fault, use_fault, walk_fault, word_fault}
 use Rattle.clap.specs.Simple.{Shape, new_shape}
-use Rattle.clap.specs.Walk.{Held, Row, Rule, Step, Text, Waiting, Walk, after_flag, after_step, has_row, idle, is_pending, long_met, long_or_other, next, option as waits_for, positional, pushed, settled, settled_rows, subcommand_met, subcommand_or_other, trailing, used, used_by_id, value, walked, word_met, arg_by_index, to_positional}
+use Rattle.clap.specs.Walk.{
+  Held,
+  Row,
+  Rule,
+  Step,
+  Text,
+  Waiting,
+  Walk,
+  after_flag,
+  after_step,
+  has_row,
+  idle,
+  is_pending,
+  long_met,
+  long_or_other,
+  next,
+  option as waits_for,
+  positional,
+  pushed,
+  settled,
+  settled_rows,
+  subcommand_met,
+  subcommand_or_other,
+  trailing,
+  used,
+  used_by_id,
+  value,
+  walked,
+  word_met,
+  arg_by_index,
+  to_positional,
+}
 use Rattle.clap.specs.declared.error.kind.ErrorKind.TheVariants.{ArgumentConflict, InvalidValue}
 use Rattle.plai_words.specs.Given.{Given, nothing, both, said, file, given}
 use Rattle.plai_words.specs.Options.{Key, Domain, Depth, Rows, Make, attached, behind, has_bundle, is_bundle, is_dashed, is_end, is_option, named}
@@ -151,7 +182,8 @@ settle_option key v t rows h = go (t.values key) refl
       ),
     )
     go (Some u) e = inr (
-      (λ z. let bad : ArgumentConflict ∷ [] ≡ [] = sym (fault_is (option key) (v ∷ []) rows ∙ use_again (name_of key) v rows (has_value key t rows h ∙ ap is_some e)) ∙ z in cc),
+      (λ z. let bad : ArgumentConflict ∷ [] ≡ [] =
+          sym (fault_is (option key) (v ∷ []) rows ∙ use_again (name_of key) v rows (has_value key t rows h ∙ ap is_some e)) ∙ z in cc),
       twice key v u t e,
     )
 
@@ -198,7 +230,8 @@ module _ (rows : List Row) (pending : Waits) (waiting : Waiting) (is_trailing : 
 
   pub gathers : to_positional all_rules (arg_by_index all_rules 1) word here (held_at rows pending)
       ≡ walk_at (rows_at rows pending) (Some (files_id, word ∷ [])) positional (is_trailing || false)
-  gathers = ap (λ (h : Held). gathered is_trailing (pushed files_id word h)) (skip (is_pending gatherer pending) (held_at rows pending) (settled all_rules (held_at rows pending)))
+  gathers = ap (λ (h : Held). gathered is_trailing (pushed files_id word h))
+      (skip (is_pending gatherer pending) (held_at rows pending) (settled all_rules (held_at rows pending)))
 
   pub gather_fault : step_fault shape 1 (held_at rows pending) value ≡ fault_at rows pending
   gather_fault = skip (is_pending gatherer pending) [] (fault_at rows pending)
@@ -227,11 +260,13 @@ behind_end (word ∷ words) t rows p waiting h = go (settle p t rows h)
     turn : turn_fault shape [] (walk_at rows (pending_as p) waiting true) word ≡ fault_at rows (pending_as p)
     turn = turn_is rows (pending_as p) waiting true word (held_at rows (pending_as p), value) [] refl refl ∙ gather_fault rows (pending_as p) waiting true word
 
-    next_walk : walked all_rules [] (walk_at rows (pending_as p) waiting true) word ≡ walk_at (rows_at rows (pending_as p)) (Some (files_id, word ∷ [])) positional true
+    next_walk : walked all_rules [] (walk_at rows (pending_as p) waiting true) word
+        ≡ walk_at (rows_at rows (pending_as p)) (Some (files_id, word ∷ [])) positional true
     next_walk = walked_is rows (pending_as p) waiting true word (held_at rows (pending_as p), value) refl ∙ gathers rows (pending_as p) waiting true word
 
     go : Settles t rows p → ((u : Taken) → Holds u (rows_at rows (pending_as p))
-        → Reads (walk_at (rows_at rows (pending_as p)) (Some (files_id, word ∷ [])) positional true) words (both (both (taken_given u) (Some (file word))) (only_files words)))
+        → Reads (walk_at (rows_at rows (pending_as p)) (Some (files_id, word ∷ [])) positional true) words
+        (both (both (taken_given u) (Some (file word))) (only_files words)))
         → Reads (walk_at rows (pending_as p) waiting true) (word ∷ words) (both (pend_given t p) (only_files (word ∷ words)))
     go (inl s) before = go_on _ _ word words _ next_walk (turn ∙ s.0)
         (subst (λ (g : Option Given). Reads (walk_at (rows_at rows (pending_as p)) (Some (files_id, word ∷ [])) positional true) words g)

@@ -30,7 +30,8 @@ returns-clause-not_over g c =
 pub returns-in-Err-clause-stopped : goal.returns-in-Err-clause-stopped
 returns-in-Err-clause-stopped g c =
     let p = g.D.Domain.plain c.args.domain.now in
-    subst (HasStopped p c.args.program.now c.args.limit (g.W.Work.entries c.args.work.now) (g.W.Work.entries c.solve.new.work) (c.solve.new.steps - c.args.steps.now))
+    subst (HasStopped p c.args.program.now c.args.limit (g.W.Work.entries c.args.work.now) (g.W.Work.entries c.solve.new.work)
+    (c.solve.new.steps - c.args.steps.now))
     (sym c.fail_of.ensures)
     (stopped p c.args.program.now c.args.limit (g.W.Work.entries c.args.work.now) (g.W.Work.entries c.solve.new.work) (c.solve.new.steps - c.args.steps.now)
     c.in-Err.fail c.in-Err.ensures.stops)

@@ -13,5 +13,6 @@ returns-in-Some c r k =
 
 pub returns-in_default : goal.returns-in_default
 returns-in_default c r k =
-    subst (λ (m : Option ℕ). dirty_at c.wipe.new.rows r k ≡ of_row (was c.args.row m r) (λ b. dirty_at c.args.rows.now b k)) (sym (is_none c.args.moved c.in_default.not-Some))
+    subst (λ (m : Option ℕ). dirty_at c.wipe.new.rows r k ≡ of_row (was c.args.row m r) (λ b. dirty_at c.args.rows.now b k))
+    (sym (is_none c.args.moved c.in_default.not-Some))
     (c.wipe.ensures r k ∙ dropped_none c.args.row r (λ b. dirty_at c.args.rows.now b k))

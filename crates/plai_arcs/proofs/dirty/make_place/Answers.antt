@@ -6,14 +6,17 @@ use Rattle.plai_arcs.proofs.dirty.make_place.Goals as goal
 
 pub grow-preserved : goal.grow-preserved
 grow-preserved c = record {
-  same = λ r k. at_pushed (λ (d : DirtyRow). flag_at d.flags.items k) false (is_ok c.push.result) c.grow.rows.items c.push.new.self.items c.new.result (c.new.ensures k) c.push.ensures.items r
+  same = λ r k. at_pushed (λ (d : DirtyRow). flag_at d.flags.items k) false (is_ok c.push.result) c.grow.rows.items c.push.new.self.items c.new.result
+      (c.new.ensures k) c.push.ensures.items r
       ∙ c.grow.invariant.same r k;
-  more = λ r. through _ _ _ (c.grow.invariant.more r) (more_pushed (λ (d : DirtyRow). vec_len d.flags) (is_ok c.push.result) c.grow.rows.items c.push.new.self.items c.new.result c.push.ensures.items r);
+  more = λ r. through _ _ _ (c.grow.invariant.more r)
+      (more_pushed (λ (d : DirtyRow). vec_len d.flags) (is_ok c.push.result) c.grow.rows.items c.push.new.self.items c.new.result c.push.ensures.items r);
 }
 
 pub returns-in_err-push-clause-succeeds : goal.returns-in_err-push-clause-succeeds
 returns-in_err-push-clause-succeeds c h =
-    let inside : c.args.row < length c.grow.rows.items = within (λ (d : DirtyRow). vec_len d.flags) c.grow.rows.items c.args.row c.args.clause (up_to _ _ _ h (c.grow.invariant.more c.args.row)) in
+    let inside : c.args.row < length c.grow.rows.items =
+    within (λ (d : DirtyRow). vec_len d.flags) c.grow.rows.items c.args.row c.args.clause (up_to _ _ _ h (c.grow.invariant.more c.args.row)) in
     absurd (omega arith)
 
 pub returns-clause-same : goal.returns-clause-same
@@ -26,11 +29,13 @@ returns-clause-same c r k =
 pub returns-clause-ok : goal.returns-clause-ok
 returns-clause-ok c =
     let inside : c.args.row < length c.grow.rows.items = omega arith in
-    on_ok c.make_room.result (subst (λ (n : ℕ). c.args.clause < n) (sym (at_same_place (λ (d : DirtyRow). vec_len d.flags) 0 c.grow.rows.items c.args.row c.make_room.new.self inside))) c.make_room.ensures.ok
+    on_ok c.make_room.result (subst (λ (n : ℕ). c.args.clause < n)
+    (sym (at_same_place (λ (d : DirtyRow). vec_len d.flags) 0 c.grow.rows.items c.args.row c.make_room.new.self inside))) c.make_room.ensures.ok
 
 pub returns-clause-succeeds : goal.returns-clause-succeeds
 returns-clause-succeeds c h =
     let inside : c.args.row < length c.grow.rows.items = omega arith in
     c.make_room.ensures.succeeds (subst (λ (n : ℕ). c.args.clause < n)
-    (at_index (λ (d : DirtyRow). vec_len d.flags) 0 c.grow.rows.items c.args.row c.index_mut.result.now inside ∙ ap (λ (d : DirtyRow). vec_len d.flags) (sym c.index_mut.ensures.value))
+    (at_index (λ (d : DirtyRow). vec_len d.flags) 0 c.grow.rows.items c.args.row c.index_mut.result.now inside
+    ∙ ap (λ (d : DirtyRow). vec_len d.flags) (sym c.index_mut.ensures.value))
     (up_to _ _ _ h (c.grow.invariant.more c.args.row)))

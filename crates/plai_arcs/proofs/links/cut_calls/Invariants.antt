@@ -5,7 +5,8 @@ use Rattle.plai_arcs.proofs.links.cut_calls.Given as goal
 abbrev pub invariant-each : goal.invariant-each
 invariant-each l = record {
   linked : AreLinked l.calls l.callers;
-  calls : (r c q : ℕ) → cond (nat_eq r l.row && nat_eq c l.clause) 0 (call_count l.calls r c q) ≡ cond (nat_eq r l.row && nat_eq c l.clause) 0 (call_count l.initial.calls r c q);
+  calls : (r c q : ℕ) → cond (nat_eq r l.row && nat_eq c l.clause) 0 (call_count l.calls r c q)
+      ≡ cond (nat_eq r l.row && nat_eq c l.clause) 0 (call_count l.initial.calls r c q);
   call_room : (r c : ℕ) → call_room l.initial.calls r c ≤ call_room l.calls r c;
   caller_room : (q : ℕ) → caller_room l.initial.callers q ≤ caller_room l.callers q;
 }

@@ -15,13 +15,17 @@ clauses-init c = record {
 pub clauses-preserved : goal.clauses-preserved
 clauses-preserved c = record {
   linked = c.cut_calls.ensures.linked;
-  calls = λ r k q. clause_cut (nat_eq r c.args.row) (nat_eq k c.clauses.clause) (call_count c.cut_calls.new.calls r k q) (call_count c.clauses.calls r k q) (call_count c.args.calls.now r k q)
+  calls = λ r k q. clause_cut (nat_eq r c.args.row) (nat_eq k c.clauses.clause) (call_count c.cut_calls.new.calls r k q) (call_count c.clauses.calls r k q)
+      (call_count c.args.calls.now r k q)
       (c.cut_calls.ensures.calls r k q) (c.clauses.invariant.calls r k q);
-  gone = λ k q h. clause_gone c.args.row k c.clauses.clause (call_count c.cut_calls.new.calls c.args.row k q) (call_count c.clauses.calls c.args.row k q) (c.cut_calls.ensures.calls c.args.row k q) (c.clauses.invariant.gone k q) h;
-  past = λ k q h. clause_past _ (call_count c.cut_calls.new.calls c.args.row k q) (call_count c.clauses.calls c.args.row k q) (c.cut_calls.ensures.calls c.args.row k q) (c.clauses.invariant.past k q h);
+  gone = λ k q h. clause_gone c.args.row k c.clauses.clause (call_count c.cut_calls.new.calls c.args.row k q) (call_count c.clauses.calls c.args.row k q)
+      (c.cut_calls.ensures.calls c.args.row k q) (c.clauses.invariant.gone k q) h;
+  past = λ k q h. clause_past _ (call_count c.cut_calls.new.calls c.args.row k q) (call_count c.clauses.calls c.args.row k q)
+      (c.cut_calls.ensures.calls c.args.row k q) (c.clauses.invariant.past k q h);
 }
 
 pub returns-clause-calls : goal.returns-clause-calls
 returns-clause-calls c r k q =
     none_left (nat_eq r c.args.row) (call_count c.clauses.calls r k q) (call_count c.args.calls.now r k q)
-    (row_gone c.clauses.calls c.args.row c.clause_count-count.result (λ k q h. c.clauses.invariant.gone k q (omega arith)) c.clauses.invariant.past r k q) (c.clauses.invariant.calls r k q)
+    (row_gone c.clauses.calls c.args.row c.clause_count-count.result (λ k q h. c.clauses.invariant.gone k q (omega arith)) c.clauses.invariant.past r k q)
+    (c.clauses.invariant.calls r k q)

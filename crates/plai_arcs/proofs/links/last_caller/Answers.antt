@@ -11,4 +11,5 @@ returns-clause-there c =
     let full : nat_eq (length pairs) 0 ≡ false = cc in
     let some : 0 < length pairs = nonzero (length pairs) full in
     let p = slice_index_or pairs (length pairs - 1) (0, 0) in
-    subst (λ (xs : List (ℕ × ℕ)). 0 < count_by (is_pair p.0 p.1) xs) c.list-pairs.ensures (stands_at (is_pair p.0 p.1) pairs (length pairs - 1) (0, 0) (omega arith) (pair_itself p.0 p.1))
+    subst (λ (xs : List (ℕ × ℕ)). 0 < count_by (is_pair p.0 p.1) xs) c.list-pairs.ensures
+    (stands_at (is_pair p.0 p.1) pairs (length pairs - 1) (0, 0) (omega arith) (pair_itself p.0 p.1))

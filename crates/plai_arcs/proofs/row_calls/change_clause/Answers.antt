@@ -10,12 +10,14 @@ pub change-requires : goal.change-requires
 change-requires c =
     let inside : c.args.clause < length c.args.clauses.now.items = omega arith in
     subst (λ (v : Called). CanChange nat_eq c.args.change (called_room v - 1) v.rows.items) (sym c.index_mut.ensures.value)
-    (can_there (λ (v : Called). v.rows.items) called_room (λ n. n - 1) nat_eq c.args.change c.args.clauses.now.items c.args.clause c.index_mut.result.now inside c.requires)
+    (can_there (λ (v : Called). v.rows.items) called_room (λ n. n - 1) nat_eq c.args.change c.args.clauses.now.items c.args.clause c.index_mut.result.now
+    inside c.requires)
 
 pub returns-then-clause-len-clause-items : goal.returns-then-clause-len-clause-items
 returns-then-clause-len-clause-items c q =
     let inside : c.args.clause < length c.args.clauses.now.items = omega arith in
-    at_written (λ (v : Called). v.rows.items) [] c.args.clauses.now.items c.args.clause c.change.new.self c.index_mut.result.now (λ ys. changed c.args.change c.change.result ys) inside
+    at_written (λ (v : Called). v.rows.items) [] c.args.clauses.now.items c.args.clause c.change.new.self c.index_mut.result.now
+    (λ ys. changed c.args.change c.change.result ys) inside
     (c.change.ensures.items ∙ ap (λ (v : Called). changed c.args.change c.change.result v.rows.items) c.index_mut.ensures.value) q
 
 pub returns-then-clause-len-clause-found : goal.returns-then-clause-len-clause-found

@@ -6,7 +6,8 @@ use Rattle.plai_arcs.proofs.row_calls.list.Goals as goal
 
 pub returns-then-row-rows : goal.returns-then-row-rows
 returns-then-row-rows c =
-    let there : calls_at c.args.rows.now c.args.row c.args.clause ≡ calls_in (slice_index_or c.args.rows.now c.args.row c.index-rows-row.result).clauses.items c.args.clause =
+    let there : calls_at c.args.rows.now c.args.row c.args.clause ≡ calls_in (slice_index_or c.args.rows.now c.args.row c.index-rows-row.result).clauses.items
+    c.args.clause =
     at_index (λ (q : RowCalls). calls_in q.clauses.items c.args.clause) [] c.args.rows.now c.args.row c.index-rows-row.result c.if-row-rows.true in
     cc
 

@@ -6,14 +6,17 @@ use Rattle.plai_arcs.proofs.row_calls.make_clause_room.Goals as goal
 
 pub grow-preserved : goal.grow-preserved
 grow-preserved c = record {
-  same = λ k. at_pushed (λ (v : Called). v.rows.items) [] (is_ok c.push.result) c.grow.clauses.items c.push.new.self.items c.new.result c.new.ensures c.push.ensures.items k
+  same = λ k. at_pushed (λ (v : Called). v.rows.items) [] (is_ok c.push.result) c.grow.clauses.items c.push.new.self.items c.new.result c.new.ensures
+      c.push.ensures.items k
       ∙ c.grow.invariant.same k;
-  more = λ k. through _ _ _ (c.grow.invariant.more k) (more_pushed called_room (is_ok c.push.result) c.grow.clauses.items c.push.new.self.items c.new.result c.push.ensures.items k);
+  more = λ k. through _ _ _ (c.grow.invariant.more k)
+      (more_pushed called_room (is_ok c.push.result) c.grow.clauses.items c.push.new.self.items c.new.result c.push.ensures.items k);
 }
 
 pub returns-in_err-push-clause-succeeds : goal.returns-in_err-push-clause-succeeds
 returns-in_err-push-clause-succeeds c h =
-    let inside : c.args.clause < length c.grow.clauses.items = within called_room c.grow.clauses.items c.args.clause c.args.count (up_to _ _ _ h (c.grow.invariant.more c.args.clause)) in
+    let inside : c.args.clause < length c.grow.clauses.items =
+    within called_room c.grow.clauses.items c.args.clause c.args.count (up_to _ _ _ h (c.grow.invariant.more c.args.clause)) in
     absurd (omega arith)
 
 pub returns-clause-same : goal.returns-clause-same
@@ -26,7 +29,8 @@ returns-clause-same c k =
 pub returns-clause-ok : goal.returns-clause-ok
 returns-clause-ok c =
     let inside : c.args.clause < length c.grow.clauses.items = omega arith in
-    on_ok c.make_room.result (λ room. subst (λ (n : ℕ). c.args.count < n) (sym (at_same_place called_room 0 c.grow.clauses.items c.args.clause c.make_room.new.self inside)) room) c.make_room.ensures.ok
+    on_ok c.make_room.result (λ room. subst (λ (n : ℕ). c.args.count < n)
+    (sym (at_same_place called_room 0 c.grow.clauses.items c.args.clause c.make_room.new.self inside)) room) c.make_room.ensures.ok
 
 pub returns-clause-succeeds : goal.returns-clause-succeeds
 returns-clause-succeeds c h =

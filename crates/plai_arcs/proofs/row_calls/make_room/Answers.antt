@@ -10,12 +10,16 @@ grow-preserved c = record {
   same = λ r k. at_pushed (λ (q : RowCalls). calls_in q.clauses.items k) [] (is_ok c.push.result) c.grow.rows.items c.push.new.self.items c.no_calls.result
       (ap (λ (ls : List Called). calls_in ls k) c.no_calls.ensures) c.push.ensures.items r
       ∙ c.grow.invariant.same r k;
-  more = λ r k. through _ _ _ (c.grow.invariant.more r k) (more_pushed (λ (q : RowCalls). clause_room q.clauses.items k) (is_ok c.push.result) c.grow.rows.items c.push.new.self.items c.no_calls.result c.push.ensures.items r);
+  more = λ r k. through _ _ _ (c.grow.invariant.more r k)
+      (more_pushed (λ (q : RowCalls). clause_room q.clauses.items k) (is_ok c.push.result) c.grow.rows.items c.push.new.self.items c.no_calls.result
+      c.push.ensures.items r);
 }
 
 pub returns-in_err-push-clause-succeeds : goal.returns-in_err-push-clause-succeeds
 returns-in_err-push-clause-succeeds c h =
-    let inside : c.args.row < length c.grow.rows.items = within (λ (q : RowCalls). clause_room q.clauses.items c.args.clause) c.grow.rows.items c.args.row c.args.count (up_to _ _ _ h (c.grow.invariant.more c.args.row c.args.clause)) in
+    let inside : c.args.row < length c.grow.rows.items =
+    within (λ (q : RowCalls). clause_room q.clauses.items c.args.clause) c.grow.rows.items c.args.row c.args.count
+    (up_to _ _ _ h (c.grow.invariant.more c.args.row c.args.clause)) in
     absurd (omega arith)
 
 pub returns-clause-same : goal.returns-clause-same
@@ -28,11 +32,14 @@ returns-clause-same c r k =
 pub returns-clause-ok : goal.returns-clause-ok
 returns-clause-ok c =
     let inside : c.args.row < length c.grow.rows.items = omega arith in
-    on_ok c.make_clause_room.result (λ room. subst (λ (n : ℕ). c.args.count < n) (sym (at_same_place (λ (q : RowCalls). clause_room q.clauses.items c.args.clause) 0 c.grow.rows.items c.args.row _ inside)) room) c.make_clause_room.ensures.ok
+    on_ok c.make_clause_room.result (λ room. subst (λ (n : ℕ). c.args.count < n)
+    (sym (at_same_place (λ (q : RowCalls). clause_room q.clauses.items c.args.clause) 0 c.grow.rows.items c.args.row _ inside)) room)
+    c.make_clause_room.ensures.ok
 
 pub returns-clause-succeeds : goal.returns-clause-succeeds
 returns-clause-succeeds c h =
     let inside : c.args.row < length c.grow.rows.items = omega arith in
     c.make_clause_room.ensures.succeeds (subst (λ (n : ℕ). c.args.count < n)
-    (at_index (λ (q : RowCalls). clause_room q.clauses.items c.args.clause) 0 c.grow.rows.items c.args.row c.index_mut.result.now inside ∙ ap (λ (q : RowCalls). clause_room q.clauses.items c.args.clause) (sym c.index_mut.ensures.value))
+    (at_index (λ (q : RowCalls). clause_room q.clauses.items c.args.clause) 0 c.grow.rows.items c.args.row c.index_mut.result.now inside
+    ∙ ap (λ (q : RowCalls). clause_room q.clauses.items c.args.clause) (sym c.index_mut.ensures.value))
     (up_to _ _ _ h (c.grow.invariant.more c.args.row c.args.clause)))

@@ -7,7 +7,8 @@ use Rattle.plai_arcs.proofs.row_calls.make_room.Given as goal
 abbrev pub invariant-grow : goal.invariant-grow
 invariant-grow l = record {
   same : (r c : ℕ) → calls_at l.rows.items r c ≡ calls_at l.initial.rows.items r c;
-  more : (r c : ℕ) → at (λ (q : RowCalls). clause_room q.clauses.items c) 0 l.initial.rows.items r ≤ at (λ (q : RowCalls). clause_room q.clauses.items c) 0 l.rows.items r;
+  more : (r c : ℕ) → at (λ (q : RowCalls). clause_room q.clauses.items c) 0 l.initial.rows.items r
+      ≤ at (λ (q : RowCalls). clause_room q.clauses.items c) 0 l.rows.items r;
 }
 
 abbrev pub decreases-grow : goal.decreases-grow

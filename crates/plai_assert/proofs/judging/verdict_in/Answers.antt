@@ -8,14 +8,18 @@ use Rattle.plai_assert.proofs.judging.verdict_in.Goals as goal
 
 pub verdict_at-requires-clause-rows : goal.verdict_at-requires-clause-rows
 verdict_at-requires-clause-rows g c =
-    let e : c.as_slice.result.now ≡ group_of c.args.groups.now.entries c.args.check.now.pred = c.as_slice.ensures ∙ ap (λ o. unwrap_or o []) c.in-Some.ensures.value in
-    subst (λ (rows : List (Row g.row.D-Value.Denot)). All (IsRowOf g.D.Domain.value_of (g.D.Domain.plain c.args.domain.now) c.args.check.now.pred.arity) rows) (sym e) c.requires.rows
+    let e : c.as_slice.result.now ≡ group_of c.args.groups.now.entries c.args.check.now.pred =
+    c.as_slice.ensures ∙ ap (λ o. unwrap_or o []) c.in-Some.ensures.value in
+    subst (λ (rows : List (Row g.row.D-Value.Denot)). All (IsRowOf g.D.Domain.value_of (g.D.Domain.plain c.args.domain.now) c.args.check.now.pred.arity) rows)
+    (sym e) c.requires.rows
 
 pub returns-in-Some : goal.returns-in-Some
 returns-in-Some g c =
-    let e : c.as_slice.result.now ≡ group_of c.args.groups.now.entries c.args.check.now.pred = c.as_slice.ensures ∙ ap (λ o. unwrap_or o []) c.in-Some.ensures.value in
+    let e : c.as_slice.result.now ≡ group_of c.args.groups.now.entries c.args.check.now.pred =
+    c.as_slice.ensures ∙ ap (λ o. unwrap_or o []) c.in-Some.ensures.value in
     c.verdict_at.ensures
-    ∙ ap (λ (rows : List (Row g.row.D-Value.Denot)). verdict_of_kind c.args.check.now.kind (g.D.Domain.plain c.args.domain.now) c.args.check.now (map (plain g.D.Domain.value_of) rows)) e
+    ∙ ap (λ (rows : List (Row g.row.D-Value.Denot)). verdict_of_kind c.args.check.now.kind (g.D.Domain.plain c.args.domain.now) c.args.check.now
+    (map (plain g.D.Domain.value_of) rows)) e
 
 pub returns-in-None : goal.returns-in-None
 returns-in-None g c =

@@ -8,7 +8,8 @@ use Rattle.plai_assert.proofs.judging.verdicts.Goals as goal
 
 pub all_verdicts-requires-clause-rows : goal.all_verdicts-requires-clause-rows
 all_verdicts-requires-clause-rows g c = λ check i.
-    group_fits g.D.Domain.value_of (g.D.Domain.plain c.args.domain.now) c.in_ok-groups.groups.entries c.args.rows.now c.in_ok-groups.ensures c.requires check.pred
+    group_fits g.D.Domain.value_of (g.D.Domain.plain c.args.domain.now) c.in_ok-groups.groups.entries c.args.rows.now c.in_ok-groups.ensures
+    c.requires check.pred
 
 pub all_verdicts-requires-clause-checks : goal.all_verdicts-requires-clause-checks
 all_verdicts-requires-clause-checks g c = λ check i.

@@ -7,7 +7,8 @@ use Rattle.plai_builtins.proofs.copies.renaming.Goals as goal
 
 pub loop-i-preserved : goal.loop-i-preserved
 loop-i-preserved c =
-    renames_one c.args.first c.loop-i.i (get_or c.args.variables.now c.loop-i.i 0) (c.args.first + c.loop-i.i) c.args.variables.now c.loop-i.pairs.items c.push.new.self.items
+    renames_one c.args.first c.loop-i.i (get_or c.args.variables.now c.loop-i.i 0) (c.args.first + c.loop-i.i) c.args.variables.now c.loop-i.pairs.items
+    c.push.new.self.items
     c.loop-i-test.true refl refl c.loop-i.invariant c.in_ok-push.ensures.items
 
 pub new-requires : goal.new-requires

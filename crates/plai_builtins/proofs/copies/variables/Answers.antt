@@ -13,6 +13,7 @@ loop-node-preserved c =
 pub returns : goal.returns
 returns c =
     c.loop-node.invariant
-    ∙ ap (λ ts. each_once (flat_map own (referred ts))) (take_all c.loop-node.node-index c.as_slice-node-items.result.now c.loop-node-test.false ∙ c.as_slice-node-items.ensures.value)
+    ∙ ap (λ ts. each_once (flat_map own (referred ts)))
+    (take_all c.loop-node.node-index c.as_slice-node-items.result.now c.loop-node-test.false ∙ c.as_slice-node-items.ensures.value)
     ∙ ap (λ ts. each_once (flat_map own ts)) c.in_ok-nodes.ensures
     ∙ ap each_once (sym (occurrences_owned c.args.term.now))

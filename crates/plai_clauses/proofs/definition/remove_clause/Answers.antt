@@ -13,7 +13,8 @@ use Rattle.plai_clauses.proofs.definition.remove_clause.Goals as goal
 pub remove-requires : goal.remove-requires
 remove-requires c =
     let es = c.args.definitions.now.entries in
-    subst (λ (cs : List Clause). c.args.number < length cs) (found_clauses es c.args.pred.now ∙ ap (λ o. unwrap_or o []) (sym c.in-Some.ensures.value)) c.requires
+    subst (λ (cs : List Clause). c.args.number < length cs)
+    (found_clauses es c.args.pred.now ∙ ap (λ o. unwrap_or o []) (sym c.in-Some.ensures.value)) c.requires
 
 pub returns-in-Some-clause-ok : goal.returns-in-Some-clause-ok
 returns-in-Some-clause-ok c =

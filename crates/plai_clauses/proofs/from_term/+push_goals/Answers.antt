@@ -31,7 +31,8 @@ returns-in_err-push_goals-in-Compound t c =
     ap (λ xs. is_conjunction c.in-Compound.name (length xs)) (sym c.as_slice.ensures.items) ∙ sym c.is_conjunction.ensures ∙ c.if-not-is_conjunction.false in
     let p = err_from_is_err_and c.from_residual.result c.from_residual.ensures.1 in
     rw (p.1, p.2)
-    (put_fails c.args.module.now c.args.imports.now c.args.body.now.items c.loop-part.body.items c.push_goals.new.body.items c.in_err-push_goals-in-Compound.field-0.0
+    (put_fails c.args.module.now c.args.imports.now c.args.body.now.items c.loop-part.body.items c.push_goals.new.body.items
+    c.in_err-push_goals-in-Compound.field-0.0
     c.as_slice-part-items.result.now c.loop-part.part-index c.part-item.result c.args.term.now c.loop-part-test.true c.part-item.is
     (joined_at c.args.term.now c.in-Compound.name c.in-Compound.args c.as_slice-part-items.result.now c.in-Compound.is c.as_slice-part-items.ensures.items test)
     c.loop-part.invariant c.in_err-push_goals-in-Compound.ensures)

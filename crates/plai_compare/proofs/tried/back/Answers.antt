@@ -12,5 +12,7 @@ reached-requires g c =
     let answer = c.args.answer.now in
     let args : AreArguments at.arity at.variables c.args.args.now = grind (arith, common_steps) in
     let value : IsValue p (length c.args.args.now) (g.D.Domain.value_of answer.value) = grind (arith, common_steps) in
-    let same : option_map g.D.Domain.state_of c.in-Ok.state ≡ (p.back (g.D.Domain.state_of at.state) c.args.args.now (g.D.Domain.value_of answer.value)).value = grind (arith, common_steps) in
-    backed p (g.met.D.Domain.lawful c.args.domain.now) at.arity at.variables (g.D.Domain.state_of at.state) c.requires.state c.args.args.now args g.D.Domain.state_of c.in-Ok.state (g.D.Domain.value_of answer.value) value same
+    let same : option_map g.D.Domain.state_of c.in-Ok.state
+    ≡ (p.back (g.D.Domain.state_of at.state) c.args.args.now (g.D.Domain.value_of answer.value)).value = grind (arith, common_steps) in
+    backed p (g.met.D.Domain.lawful c.args.domain.now) at.arity at.variables (g.D.Domain.state_of at.state) c.requires.state c.args.args.now args
+    g.D.Domain.state_of c.in-Ok.state (g.D.Domain.value_of answer.value) value same

@@ -10,5 +10,7 @@ reached-requires g c =
     let p = g.D.Domain.plain c.args.domain.now in
     let call = c.args.call.now in
     let head : IsHead call.arity c.args.variables c.args.head.now = grind (arith, common_steps) in
-    let same : option_map g.D.Domain.state_of c.in-Ok.state ≡ (p.enter (g.D.Domain.value_of call.value) c.args.head.now c.args.variables).value = grind (arith, common_steps) in
-    entered p (g.met.D.Domain.lawful c.args.domain.now) call.arity c.args.variables g.D.Domain.state_of c.in-Ok.state c.args.head.now (g.D.Domain.value_of call.value) head c.requires same
+    let same : option_map g.D.Domain.state_of c.in-Ok.state ≡ (p.enter (g.D.Domain.value_of call.value) c.args.head.now c.args.variables).value =
+    grind (arith, common_steps) in
+    entered p (g.met.D.Domain.lawful c.args.domain.now) call.arity c.args.variables g.D.Domain.state_of c.in-Ok.state c.args.head.now
+    (g.D.Domain.value_of call.value) head c.requires same

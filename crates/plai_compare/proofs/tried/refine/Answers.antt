@@ -12,5 +12,7 @@ reached-requires g c =
     let at = c.args.at.now in
     let args : AreArguments at.arity at.variables c.args.args.now = grind (arith, common_steps) in
     let within : acts_within (length c.args.args.now) c.args.action.now = grind (arith, common_steps) in
-    let same : option_map g.D.Domain.state_of c.in-Ok.state ≡ (p.refine (g.D.Domain.state_of at.state) c.args.args.now c.args.action.now).value = grind (arith, common_steps) in
-    refined p (g.met.D.Domain.lawful c.args.domain.now) at.arity at.variables (g.D.Domain.state_of at.state) c.requires c.args.args.now args g.D.Domain.state_of c.in-Ok.state c.args.action.now within same
+    let same : option_map g.D.Domain.state_of c.in-Ok.state ≡ (p.refine (g.D.Domain.state_of at.state) c.args.args.now c.args.action.now).value =
+    grind (arith, common_steps) in
+    refined p (g.met.D.Domain.lawful c.args.domain.now) at.arity at.variables (g.D.Domain.state_of at.state) c.requires c.args.args.now args
+    g.D.Domain.state_of c.in-Ok.state c.args.action.now within same

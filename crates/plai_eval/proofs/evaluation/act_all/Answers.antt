@@ -12,7 +12,8 @@ loop-action-preserved g c =
     let within : acts_within _ c.action-item.result = grind (arith, common_steps) in
     let refined : (p.refine before c.args.args.now c.action-item.result).value ≡ Some after = grind (arith, common_steps) in
     record {
-      there = refined_there p (g.met.D.Domain.lawful c.args.domain.now) _ _ c.args.args.now c.requires.args _ before after within c.loop-action.invariant.there refined;
+      there = refined_there p (g.met.D.Domain.lawful c.args.domain.now) _ _ c.args.args.now c.requires.args _ before after
+          within c.loop-action.invariant.there refined;
       state = grind (arith, common_steps);
       over = grind (arith, common_steps);
       cost = grind (arith, common_steps);

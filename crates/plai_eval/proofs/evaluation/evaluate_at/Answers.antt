@@ -13,7 +13,8 @@ walk_body-requires-clause-state g c =
     let v = c.args.clause.now.variables in
     let state = g.D.Domain.state_of c.in-Some.state in
     let good : IsHead (length head) v head = subst (λ h. IsHead (length h) v h) (sym c.as_slice-head.ensures) c.requires.clause.head in
-    let value : IsValue p (length head) (g.D.Domain.value_of c.args.call.now) = subst (λ h. IsValue p (length h) (g.D.Domain.value_of c.args.call.now)) (sym c.as_slice-head.ensures) c.requires.call in
+    let value : IsValue p (length head) (g.D.Domain.value_of c.args.call.now) =
+    subst (λ h. IsValue p (length h) (g.D.Domain.value_of c.args.call.now)) (sym c.as_slice-head.ensures) c.requires.call in
     let entered : (p.enter (g.D.Domain.value_of c.args.call.now) head v).value ≡ Some state = grind (arith, common_steps) in
     let there = entered_there p laws (length head) v head (g.D.Domain.value_of c.args.call.now) state good value entered in
     is_state p laws (length head) v state there
@@ -26,7 +27,8 @@ walk_body-requires-clause-head g c =
     let v = c.args.clause.now.variables in
     let state = g.D.Domain.state_of c.in-Some.state in
     let good : IsHead (length head) v head = subst (λ h. IsHead (length h) v h) (sym c.as_slice-head.ensures) c.requires.clause.head in
-    let value : IsValue p (length head) (g.D.Domain.value_of c.args.call.now) = subst (λ h. IsValue p (length h) (g.D.Domain.value_of c.args.call.now)) (sym c.as_slice-head.ensures) c.requires.call in
+    let value : IsValue p (length head) (g.D.Domain.value_of c.args.call.now) =
+    subst (λ h. IsValue p (length h) (g.D.Domain.value_of c.args.call.now)) (sym c.as_slice-head.ensures) c.requires.call in
     let entered : (p.enter (g.D.Domain.value_of c.args.call.now) head v).value ≡ Some state = grind (arith, common_steps) in
     let there = entered_there p laws (length head) v head (g.D.Domain.value_of c.args.call.now) state good value entered in
     in_numbers p laws (length head) v (λ n m. IsHead n m head) state there good
@@ -39,7 +41,8 @@ walk_body-requires-clause-body g c =
     let v = c.args.clause.now.variables in
     let state = g.D.Domain.state_of c.in-Some.state in
     let good : IsHead (length head) v head = subst (λ h. IsHead (length h) v h) (sym c.as_slice-head.ensures) c.requires.clause.head in
-    let value : IsValue p (length head) (g.D.Domain.value_of c.args.call.now) = subst (λ h. IsValue p (length h) (g.D.Domain.value_of c.args.call.now)) (sym c.as_slice-head.ensures) c.requires.call in
+    let value : IsValue p (length head) (g.D.Domain.value_of c.args.call.now) =
+    subst (λ h. IsValue p (length h) (g.D.Domain.value_of c.args.call.now)) (sym c.as_slice-head.ensures) c.requires.call in
     let entered : (p.enter (g.D.Domain.value_of c.args.call.now) head v).value ≡ Some state = grind (arith, common_steps) in
     let there = entered_there p laws (length head) v head (g.D.Domain.value_of c.args.call.now) state good value entered in
     in_numbers p laws (length head) v (λ n m. All (IsLiteral n m) c.as_slice.result.now) state there

@@ -32,7 +32,8 @@ returns-in-None-clause-answer g c =
     let before = g.D.Domain.state_of c.loop-literal.state in
     let stepped : (step p source (c.loop-literal.number + 1) c.literal-item.result before).state ≡ None = grind (arith, common_steps) in
     let next : suc c.loop-literal.number ≡ c.loop-literal.number + 1 = omega arith in
-    let more : drop c.loop-literal.literal-index c.args.body.now ≡ c.literal-item.result ∷ drop (c.loop-literal.literal-index + 1) c.args.body.now = grind (arith, common_steps) in
+    let more : drop c.loop-literal.literal-index c.args.body.now ≡ c.literal-item.result ∷ drop (c.loop-literal.literal-index + 1) c.args.body.now =
+    grind (arith, common_steps) in
     let stops = walk_stops p source c.args.head.now _ _ _ _ _ before next more stepped in
     sym (ap (λ (e : Evaluation). e.answer) stops) ∙ c.loop-literal.invariant.answer
 
@@ -43,9 +44,11 @@ returns-in-None-clause-calls g c =
     let before = g.D.Domain.state_of c.loop-literal.state in
     let stepped : (step p source (c.loop-literal.number + 1) c.literal-item.result before).state ≡ None = grind (arith, common_steps) in
     let next : suc c.loop-literal.number ≡ c.loop-literal.number + 1 = omega arith in
-    let more : drop c.loop-literal.literal-index c.args.body.now ≡ c.literal-item.result ∷ drop (c.loop-literal.literal-index + 1) c.args.body.now = grind (arith, common_steps) in
+    let more : drop c.loop-literal.literal-index c.args.body.now ≡ c.literal-item.result ∷ drop (c.loop-literal.literal-index + 1) c.args.body.now =
+    grind (arith, common_steps) in
     let stops = walk_stops p source c.args.head.now _ _ _ _ _ before next more stepped in
-    c.in_ok-next.ensures.calls ∙ sym (ap (λ (e : Evaluation). map (name_of g.D.Domain.value_of) c.loop-literal.calls.items ++ e.calls) stops) ∙ c.loop-literal.invariant.calls
+    c.in_ok-next.ensures.calls ∙ sym (ap (λ (e : Evaluation). map (name_of g.D.Domain.value_of) c.loop-literal.calls.items ++ e.calls) stops)
+    ∙ c.loop-literal.invariant.calls
 
 pub returns-in-None-clause-within : goal.returns-in-None-clause-within
 returns-in-None-clause-within g c =
@@ -54,6 +57,7 @@ returns-in-None-clause-within g c =
     let before = g.D.Domain.state_of c.loop-literal.state in
     let stepped : (step p source (c.loop-literal.number + 1) c.literal-item.result before).state ≡ None = grind (arith, common_steps) in
     let next : suc c.loop-literal.number ≡ c.loop-literal.number + 1 = omega arith in
-    let more : drop c.loop-literal.literal-index c.args.body.now ≡ c.literal-item.result ∷ drop (c.loop-literal.literal-index + 1) c.args.body.now = grind (arith, common_steps) in
+    let more : drop c.loop-literal.literal-index c.args.body.now ≡ c.literal-item.result ∷ drop (c.loop-literal.literal-index + 1) c.args.body.now =
+    grind (arith, common_steps) in
     let stops = walk_stops p source c.args.head.now _ _ _ _ _ before next more stepped in
     sym c.loop-literal.invariant.over ∙ ap (λ (e : Evaluation). e.over) stops ∙ c.in_ok-next.ensures.within

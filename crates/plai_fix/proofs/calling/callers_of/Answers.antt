@@ -8,4 +8,5 @@ use Rattle.plai_fix.proofs.calling.callers_of.Goals as goal
 pub returns : goal.returns
 returns c =
     ok_items _ _ c.from_slice.result c.from_slice.ensures.items
-    (λ pairs e r k. called_as (is_call c.args.arcs.now r k c.args.row) (is_pair r k) c.callers.result.now (c.callers.ensures r k) ∙ sym (ap (list_any (is_pair r k)) e))
+    (λ pairs e r k. called_as (is_call c.args.arcs.now r k c.args.row) (is_pair r k) c.callers.result.now (c.callers.ensures r k)
+    ∙ sym (ap (list_any (is_pair r k)) e))

@@ -22,9 +22,11 @@ returns-in_err-evaluated-clause-err g c =
     let p = g.D.Domain.plain c.args.domain.now in
     let value_of = g.D.Domain.value_of in
     let rows = c.args.table.now.rows in
-    let told : IfErr c.from_residual.result (TellsOver p (kept_rows value_of p rows) (key_name value_of c.row.result.name.now) c.args.number c.args.clause.now) = search rules in
+    let told : IfErr c.from_residual.result (TellsOver p (kept_rows value_of p rows) (key_name value_of c.row.result.name.now) c.args.number
+    c.args.clause.now) = search rules in
     if_err (TellsOver p (kept_rows value_of p rows) (key_name value_of c.row.result.name.now) c.args.number c.args.clause.now) _ c.from_residual.result told
-    (λ fail h name e. subst (λ (z : Key g.row.D-Value.Denot). TellsOver p (kept_rows value_of p rows) (key_name value_of z) c.args.number c.args.clause.now fail) (one_name rows c.args.row _ name c.row.ensures e) h)
+    (λ fail h name e. subst (λ (z : Key g.row.D-Value.Denot). TellsOver p (kept_rows value_of p rows) (key_name value_of z) c.args.number c.args.clause.now
+    fail) (one_name rows c.args.row _ name c.row.ensures e) h)
 
 pub returns-clause-ok : goal.returns-clause-ok
 returns-clause-ok g c =
@@ -32,17 +34,20 @@ returns-clause-ok g c =
     let value_of = g.D.Domain.value_of in
     let rows = c.args.table.now.rows in
     λ name e.
-    subst (λ (z : Key g.row.D-Value.Denot). IsEvaluation p (kept_rows value_of p rows) c.args.clause.now (value_of z.call) (option_map value_of c.in_ok-evaluated.evaluated.answer) (map (key_name value_of) c.in_ok-evaluated.evaluated.calls))
+    subst (λ (z : Key g.row.D-Value.Denot). IsEvaluation p (kept_rows value_of p rows) c.args.clause.now (value_of z.call)
+    (option_map value_of c.in_ok-evaluated.evaluated.answer) (map (key_name value_of) c.in_ok-evaluated.evaluated.calls))
     (one_name rows c.args.row _ name c.row.ensures e) c.in_ok-evaluated.ensures.ok
 
 pub returns-clause-clears : goal.returns-clause-clears
 returns-clause-clears g c =
     let p = g.D.Domain.plain c.args.domain.now in
-    clears_from (as_domain p) (kept_rows g.D.Domain.value_of p c.args.table.now.rows) (is_dirty c.args.arcs.now) (is_dirty c.clear_dirty.new.self) (is_call c.args.arcs.now) (is_call c.clear_dirty.new.self)
+    clears_from (as_domain p) (kept_rows g.D.Domain.value_of p c.args.table.now.rows) (is_dirty c.args.arcs.now) (is_dirty c.clear_dirty.new.self)
+    (is_call c.args.arcs.now) (is_call c.clear_dirty.new.self)
     c.args.row c.args.number c.requires.number c.clear_dirty.ensures.dirty c.clear_dirty.ensures.calls
 
 pub returns-clause-noted : goal.returns-clause-noted
 returns-clause-noted g c =
     λ name e.
-    subst (λ (z : Key g.row.D-Value.Denot). g.W.Work.entries c.evaluate_clause.new.work ≡ noted (entries.Evaluated (name_of g.D.Domain.value_of z) c.args.number) (g.W.Work.entries c.args.work.now))
+    subst (λ (z : Key g.row.D-Value.Denot). g.W.Work.entries c.evaluate_clause.new.work
+    ≡ noted (entries.Evaluated (name_of g.D.Domain.value_of z) c.args.number) (g.W.Work.entries c.args.work.now))
     (one_name c.args.table.now.rows c.args.row _ name c.row.ensures e) c.in_ok-evaluated.ensures.noted

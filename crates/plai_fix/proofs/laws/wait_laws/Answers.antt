@@ -5,8 +5,10 @@ use Rattle.plai_fix.proofs.laws.wait_laws.Goals as goal
 
 pub returns : goal.returns
 returns g c = record {
-  closed = λ p laws limit start log k new n i logged r at b s called set inside right. sets _ p laws _ limit start log k new n i logged r at b s called set inside right;
+  closed = λ p laws limit start log k new n i logged r at b s called set inside right. sets _ p laws _ limit start log k new n i logged r at b s called set
+      inside right;
   opened = λ p laws limit start log k open_pair logged. opens _ p laws _ limit start log k open_pair logged;
   met = λ p laws rows n i unmet met r at all. waits_no_more _ p laws rows n i unmet met r at all;
-  unmet = λ p laws limit rows n i unmet marked met full marks r at real no_room y inside dead. waits_for_ever _ p laws limit rows n i unmet marked met full marks r at real no_room y inside dead;
+  unmet = λ p laws limit rows n i unmet marked met full marks r at real no_room y inside dead. waits_for_ever _ p laws limit rows n i unmet marked met full
+      marks r at real no_room y inside dead;
 }

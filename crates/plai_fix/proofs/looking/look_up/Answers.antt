@@ -11,7 +11,8 @@ returns-in_ok-push-in-Some g c =
     let value_of = g.D.Domain.value_of in
     let p = g.D.Domain.plain c.args._domain.now in
     let rows = c.args.table.now.rows in
-    let at : position (same_key _ value_of g.D.Value.PartialEq.eq g.met.D.Domain.equal c.args.name) (names_of rows) ≡ Some c.in-Some.row = sym c.in-Some.ensures in
+    let at : position (same_key _ value_of g.D.Value.PartialEq.eq g.met.D.Domain.equal c.args.name) (names_of rows) ≡ Some c.in-Some.row =
+    sym c.in-Some.ensures in
     λ names looks.
     found_one (as_domain p) (kept_rows value_of p rows) (key_name value_of c.args.name) c.in-Some.row names _ _ _ c.in_ok-push-in-Some.ensures.items
     (found_named _ value_of g.D.Value.PartialEq.eq g.met.D.Domain.equal p c.args.name rows c.in-Some.row at) looks

@@ -32,6 +32,8 @@ returns g c =
     let value_of = g.D.Domain.value_of in
     let p = g.D.Domain.plain c.args.domain.now in
     let h = c.into_iter-name-iterator.ensures.into_iter_gives in
-    let end = YieldsList-end (YieldsList-from_vec {s = c.into_iter-name-iterator.result} c.args.names.items h.0 (search (rules, h.1))) c.loop-name.yielded c.loop-name.name-iterator c.loop-name.yielded_by c.next.result c.next.new.self c.in-None.is c.next.ensures.steps in
+    let end = YieldsList-end (YieldsList-from_vec {s = c.into_iter-name-iterator.result} c.args.names.items h.0 (search (rules, h.1))) c.loop-name.yielded
+    c.loop-name.name-iterator c.loop-name.yielded_by c.next.result c.next.new.self c.in-None.is c.next.ensures.steps in
     let whole : c.loop-name.yielded ≡ c.args.names.items = sym (map_same c.loop-name.yielded) ∙ end.0 in
-    looks_all (as_domain p) (kept_rows value_of p c.args.table.now.rows) (key_name value_of) c.loop-name.yielded c.args.names.items _ _ whole c.loop-name.invariant.looks
+    looks_all (as_domain p) (kept_rows value_of p c.args.table.now.rows) (key_name value_of) c.loop-name.yielded c.args.names.items _ _ whole
+    c.loop-name.invariant.looks

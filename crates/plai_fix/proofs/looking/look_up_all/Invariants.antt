@@ -12,5 +12,6 @@ invariant-loop-name g l =
     record {
       can : (goal.iterator-loop-name g).can_next l.name-iterator;
       finite : (goal.iterator-loop-name g).is_finite l.name-iterator;
-      looks : Looks (as_domain p) (kept_rows value_of p l.table.rows) (map (key_name value_of) l.yielded) l.rows.items (map (key_name value_of) l.missing.items);
+      looks : Looks (as_domain p) (kept_rows value_of p l.table.rows) (map (key_name value_of) l.yielded) l.rows.items
+          (map (key_name value_of) l.missing.items);
     }

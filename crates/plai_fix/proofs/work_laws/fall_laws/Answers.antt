@@ -5,9 +5,13 @@ use Rattle.plai_fix.proofs.work_laws.fall_laws.Goals as goal
 pub returns : goal.returns
 returns g c = record {
   made = λ p laws k new open_pair next rows keeps limit x after few. made_room _ p laws k new open_pair next rows keeps limit x after few;
-  evaluated = λ p laws k new open_pair next rows keeps n r at live i b s dirty names after. evaluated_dirties _ p laws k new open_pair next rows keeps n r at live i b s dirty names after;
+  evaluated = λ p laws k new open_pair next rows keeps n r at live i b s dirty names after. evaluated_dirties _ p laws k new open_pair next rows keeps n r at
+      live i b s dirty names after;
   set = λ p k new n i called set. set_dirties _ p k new n i called set;
-  first = λ p laws k new open_pair next rows keeps n r at live v after limit none. first_answer _ p laws k new open_pair next rows keeps n r at live v after limit none;
-  room = λ p laws k new open_pair next rows keeps n r at live v after limit u had. later_room _ p laws k new open_pair next rows keeps n r at live v after limit u had;
-  ranks = λ p laws k new open_pair next rows keeps n r at live v after rank is u had up other. later_ranks _ p laws k new open_pair next rows keeps n r at live v after rank is u had up other;
+  first = λ p laws k new open_pair next rows keeps n r at live v after limit none. first_answer _ p laws k new open_pair next rows keeps n r at live v
+      after limit none;
+  room = λ p laws k new open_pair next rows keeps n r at live v after limit u had. later_room _ p laws k new open_pair next rows keeps n r at live v after
+      limit u had;
+  ranks = λ p laws k new open_pair next rows keeps n r at live v after rank is u had up other. later_ranks _ p laws k new open_pair next rows keeps n r at
+      live v after rank is u had up other;
 }

@@ -17,7 +17,8 @@ returns-in-Found-clause-next c =
     let rest = take_rest c.args.text.now c.loop-len.at in
     let fits = rw (rest, c.in-Found.is) at c.in_ok-piece_at.ensures.within in (
       omega (arith, fits, length-drop c.loop-len.at c.args.text.now),
-      gives c.loop-len.at c.in-Found.len _ c.in-Found.kind c.args.text.now _ _ (rw rest at c.in_ok-piece_at.ensures.value) c.in-Found.is c.loop-len.invariant.same,
+      gives c.loop-len.at c.in-Found.len _ c.in-Found.kind c.args.text.now _ _ (rw rest at c.in_ok-piece_at.ensures.value) c.in-Found.is
+          c.loop-len.invariant.same,
     )
 
 pub returns-in-Found-clause-written : goal.returns-in-Found-clause-written

@@ -23,6 +23,7 @@ loop-number-preserved c =
     record {
       few = c.following-second.ensures.few;
       value = second ∙ ap (state_at c.args.count) (omega arith);
-      program = c.in_ok-add_pred.ensures ∙ one_pred c.args.count n c.chosen.result c.chosen-in-loop-number.result c.loop-number.program c.loop-number.invariant.program left right;
+      program = c.in_ok-add_pred.ensures ∙ one_pred c.args.count n c.chosen.result c.chosen-in-loop-number.result c.loop-number.program
+          c.loop-number.invariant.program left right;
       home = ap (λ p. p.modules) c.in_ok-add_pred.ensures ∙ c.loop-number.invariant.home;
     }

@@ -30,7 +30,8 @@ link_file-requires c =
     let h = c.into_iter-file-iterator.ensures.into_iter_gives in
     let all = YieldsList-from_vec {s = c.into_iter-file-iterator.result} c.args.files.items h.0 (search (rules, h.1)) in
     let turn =
-    YieldsList-turn all c.loop-file.yielded c.loop-file.file-iterator c.loop-file.yielded_by c.next.result c.next.new.self c.in-Some.file c.in-Some.is c.next.ensures.steps in
+    YieldsList-turn all c.loop-file.yielded c.loop-file.file-iterator c.loop-file.yielded_by c.next.result c.next.new.self c.in-Some.file c.in-Some.is
+    c.next.ensures.steps in
     subst AreWellFormedItems (sym turn.1) (c.requires.items (length c.loop-file.yielded) c.in-Some.file turn.0)
 
 pub loop-file-preserved : goal.loop-file-preserved
@@ -40,12 +41,14 @@ loop-file-preserved c =
     let h = c.into_iter-file-iterator.ensures.into_iter_gives in
     let all = YieldsList-from_vec {s = c.into_iter-file-iterator.result} c.args.files.items h.0 (search (rules, h.1)) in
     let turn =
-    YieldsList-turn all c.loop-file.yielded c.loop-file.file-iterator c.loop-file.yielded_by c.next.result c.next.new.self c.in-Some.file c.in-Some.is c.next.ensures.steps in
+    YieldsList-turn all c.loop-file.yielded c.loop-file.file-iterator c.loop-file.yielded_by c.next.result c.next.new.self c.in-Some.file c.in-Some.is
+    c.next.ensures.steps in
     let heads : c.as_slice-in-loop-file.result.now ≡ map head_of_file files =
     c.as_slice-in-loop-file.ensures.value ∙ c.in_ok-exporters.ensures ∙ ap (map head_of_file) c.as_slice.ensures.value in
     let same : linked c.as_slice-in-loop-file.result.now c.loop-file.program c.in-Some.file ≡ linked files c.loop-file.program c.in-Some.file =
     ap (λ (fs : List FileItems). linked fs c.loop-file.program c.in-Some.file) heads ∙ heads_linked files c.loop-file.program c.in-Some.file in
-    let more = link_more files (length c.loop-file.yielded) c.loop-file.program c.loop-file.invariant.program c.in-Some.file new turn.0 turn.1 (sym same ∙ c.in-Ok.ensures) in
+    let more = link_more files (length c.loop-file.yielded) c.loop-file.program c.loop-file.invariant.program c.in-Some.file new turn.0 turn.1
+    (sym same ∙ c.in-Ok.ensures) in
     let count : length (c.loop-file.yielded ++ c.in-Some.file ∷ []) ≡ length c.loop-file.yielded + 1 = length_push c.loop-file.yielded c.in-Some.file in
     record {
       can = tt;
@@ -61,7 +64,8 @@ returns-in-Err-clause-answer c =
     let h = c.into_iter-file-iterator.ensures.into_iter_gives in
     let all = YieldsList-from_vec {s = c.into_iter-file-iterator.result} c.args.files.items h.0 (search (rules, h.1)) in
     let turn =
-    YieldsList-turn all c.loop-file.yielded c.loop-file.file-iterator c.loop-file.yielded_by c.next.result c.next.new.self c.in-Some.file c.in-Some.is c.next.ensures.steps in
+    YieldsList-turn all c.loop-file.yielded c.loop-file.file-iterator c.loop-file.yielded_by c.next.result c.next.new.self c.in-Some.file c.in-Some.is
+    c.next.ensures.steps in
     let heads : c.as_slice-in-loop-file.result.now ≡ map head_of_file files =
     c.as_slice-in-loop-file.ensures.value ∙ c.in_ok-exporters.ensures ∙ ap (map head_of_file) c.as_slice.ensures.value in
     let same : linked c.as_slice-in-loop-file.result.now c.loop-file.program c.in-Some.file ≡ linked files c.loop-file.program c.in-Some.file =

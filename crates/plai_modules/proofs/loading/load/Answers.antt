@@ -17,7 +17,8 @@ program_of-requires-clause-items c = All-same AreWellFormedItems c.into_vec.resu
 
 pub returns-clause-answer : goal.returns-clause-answer
 returns-clause-answer c =
-    load_links (texts_of c.args.files.now) c.into_vec.result.items c.program_of.result (c.in_ok-read.ensures.answer ∙ ap Ok (sym c.into_vec.ensures)) c.program_of.ensures.answer
+    load_links (texts_of c.args.files.now) c.into_vec.result.items c.program_of.result (c.in_ok-read.ensures.answer ∙ ap Ok (sym c.into_vec.ensures))
+    c.program_of.ensures.answer
 
 pub returns-clause-few : goal.returns-clause-few
 returns-clause-few c =

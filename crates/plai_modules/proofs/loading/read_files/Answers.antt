@@ -15,11 +15,14 @@ loop-i-preserved c =
     let read = c.loop-i.read.items in
     let items = c.in-Ok.items in
     let pushed : c.push.new.self.items ≡ read ++ items ∷ [] = c.in_ok-push-in-Ok.ensures.items in
-    let said : items_of c.index-files-i.result.text c.loop-i.there ≡ Ok items = ap (λ text. items_of text c.loop-i.there) (sym c.as_slice.ensures) ∙ c.in-Ok.ensures.answer in (
-      read_more files i c.loop-i.there read (files_from 1 0 (texts_of files)) c.loop-i.invariant.0 c.index-files-i.result items c.loop-i-test.true c.index-files-i.is said
+    let said : items_of c.index-files-i.result.text c.loop-i.there ≡ Ok items =
+    ap (λ text. items_of text c.loop-i.there) (sym c.as_slice.ensures) ∙ c.in-Ok.ensures.answer in (
+      read_more files i c.loop-i.there read (files_from 1 0 (texts_of files)) c.loop-i.invariant.0 c.index-files-i.result items c.loop-i-test.true
+          c.index-files-i.is said
           ∙ ap (λ fs. behind fs (files_from (i + 1 + 1) items.count (texts_of (drop (i + 1) files)))) (sym pushed),
       c.in-Ok.ensures.few c.loop-i.invariant.1,
-      All-same AreWellFormedItems c.push.new.self.items (read ++ items ∷ []) pushed (All-push AreWellFormedItems read items c.loop-i.invariant.2 c.in-Ok.ensures.well_formed),
+      All-same AreWellFormedItems c.push.new.self.items (read ++ items ∷ []) pushed
+          (All-push AreWellFormedItems read items c.loop-i.invariant.2 c.in-Ok.ensures.well_formed),
       omega (arith, c.loop-i.invariant.3, simp length-append at (ap length pushed)),
       omega (arith, c.in-Ok.ensures.counted, c.loop-i.invariant.4, ap counted_in pushed, sum_by_push counted read items),
     )

@@ -20,7 +20,8 @@ image-requires-clause-below c = subst (AreBelow c.args.state.now.variables) (sym
 
 pub image-requires-clause-functions : goal.image-requires-clause-functions
 image-requires-clause-functions c =
-    subst (λ fs. IsPositiveBelow c.args.state.now.variables (together fs)) (sym (c.in_ok-factors.ensures ∙ c.as_slice.ensures.value)) (state_positive c.args.state.now)
+    subst (λ fs. IsPositiveBelow c.args.state.now.variables (together fs)) (sym (c.in_ok-factors.ensures ∙ c.as_slice.ensures.value))
+    (state_positive c.args.state.now)
 
 pub returns : goal.returns
 returns c =
@@ -31,7 +32,9 @@ returns c =
     (λ b h.
     subst (λ k. IsDiagramOf k (call_of s.arity s.variables c.args.args.now (assignments_of s)) b) are.size
     (subst (λ xs. IsDiagramOf (length c.in_ok-sets.sets.items) xs b)
-    (sym (call_whole s.arity s.variables s.sets.items ys s.size (IsSet-kept (2 ^ s.variables) (λ y. together s.factors.items (has_slot y))) c.args.args.now c.requires.below c.in_ok-sets.sets.items are))
+    (sym (call_whole s.arity s.variables s.sets.items ys s.size (IsSet-kept (2 ^ s.variables) (λ y. together s.factors.items (has_slot y))) c.args.args.now
+    c.requires.below c.in_ok-sets.sets.items are))
     (subst (λ sets. IsDiagramOf (length sets) (image sets ys) b) c.as_slice-2.ensures.value
-    (subst (λ fs. IsDiagramOf (length c.as_slice-2.result.now) (image c.as_slice-2.result.now (models_in s.variables (together fs))) b) (c.in_ok-factors.ensures ∙ c.as_slice.ensures.value) h))))
+    (subst (λ fs. IsDiagramOf (length c.as_slice-2.result.now) (image c.as_slice-2.result.now (models_in s.variables (together fs))) b)
+    (c.in_ok-factors.ensures ∙ c.as_slice.ensures.value) h))))
     c.image.result c.image.ensures

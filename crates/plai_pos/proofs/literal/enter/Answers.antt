@@ -26,7 +26,9 @@ preimage-requires-clause-function c =
 pub invariant_of-result : goal.invariant_of-result
 invariant_of-result c =
     let are = c.in_ok-sets.ensures in
-    let p = positive_alone c.args.variables c.in_ok-diagram.diagram c.in_ok-factors.factors.items (λ at. c.in_ok-factors.ensures at ∙ ap (λ fs. together fs at && holds c.in_ok-diagram.diagram at) c.new.ensures.items) (positive_function c.args.variables c.in_ok-diagram.diagram c.in_ok-diagram.ensures.diagram) in
+    let p = positive_alone c.args.variables c.in_ok-diagram.diagram c.in_ok-factors.factors.items
+    (λ at. c.in_ok-factors.ensures at ∙ ap (λ fs. together fs at && holds c.in_ok-diagram.diagram at) c.new.ensures.items)
+    (positive_function c.args.variables c.in_ok-diagram.diagram c.in_ok-diagram.ensures.diagram) in
     record { small = c.args.call.now.small; slots = c.requires.slots; size = are.size ∙ c.requires.arity; below = are.below; over = p.over; top = p.top }
 
 pub returns : goal.returns
@@ -35,5 +37,6 @@ returns c =
     (models_alone c.args.variables c.in_ok-diagram.diagram c.in_ok-factors.factors.items
     (λ at. c.in_ok-factors.ensures at ∙ ap (λ fs. together fs at && holds c.in_ok-diagram.diagram at) c.new.ensures.items))
     ∙ ap (state_with c.args.call.now.arity c.args.variables)
-    (begun_whole c.args.call.now.arity c.args.variables c.args.head.now c.in_ok-sets.sets.items _ c.requires.arity c.in_ok-sets.ensures c.as_slice.result.now c.as_slice.ensures.value
+    (begun_whole c.args.call.now.arity c.args.variables c.args.head.now c.in_ok-sets.sets.items _ c.requires.arity c.in_ok-sets.ensures c.as_slice.result.now
+    c.as_slice.ensures.value
     (λ k. models_of k c.args.call.now.diagram) refl (models_of c.args.variables c.in_ok-diagram.diagram) c.in_ok-diagram.ensures.models)

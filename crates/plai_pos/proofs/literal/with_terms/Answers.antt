@@ -10,7 +10,8 @@ loop-place-init c = joining_none c.args.end c.args.sets.now c.args.functions.ite
 pub loop-place-preserved : goal.loop-place-preserved
 loop-place-preserved c =
     let place = c.loop-place.place in
-    joining_more c.args.end c.args.sets.now (together c.args.functions.items) place (c.args.end + place) c.index-sets-place.result c.loop-place.all.items c.push.new.self.items
+    joining_more c.args.end c.args.sets.now (together c.args.functions.items) place (c.args.end + place) c.index-sets-place.result c.loop-place.all.items
+    c.push.new.self.items
     c.in_ok-unified.unified refl (λ at. set_at _ _ place c.index-sets-place.result at refl c.index-sets-place.is c.loop-place-test.true)
     (c.in_ok-push.ensures.items ∙ ap (λ f. c.loop-place.all.items ++ f ∷ []) c.in_ok-new.ensures) c.in_ok-unified.ensures.function c.loop-place.invariant
 

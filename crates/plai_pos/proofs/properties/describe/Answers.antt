@@ -11,5 +11,7 @@ loop-property-init c = λ at. ap (λ b. b && allowed_all c.args.properties.now a
 
 pub returns : goal.returns
 returns c =
-    ok_then _ _ (λ b h. described c.args.arity c.loop-property.slots c.args.properties.now b c.requires.within (all_allowed c.loop-property.slots c.loop-property.property-index c.args.properties.now c.loop-property-test.false c.loop-property.invariant) h)
+    ok_then _ _ (λ b h. described c.args.arity c.loop-property.slots c.args.properties.now b
+    c.requires.within (all_allowed c.loop-property.slots c.loop-property.property-index c.args.properties.now c.loop-property-test.false
+    c.loop-property.invariant) h)
     c.all_of.result c.all_of.ensures.function

@@ -16,6 +16,7 @@ returns-in-Var c =
     let s = c.args.state.now in
     ok_then _ _
     (λ may h.
-    h ∙ ap not (always_true s.arity s.variables c.in-Var.number s.sets.items (models_in s.variables (together s.factors.items)) s.size (IsSet-kept (2 ^ s.variables) (λ y. together s.factors.items (has_slot y))))
+    h ∙ ap not (always_true s.arity s.variables c.in-Var.number s.sets.items (models_in s.variables (together s.factors.items)) s.size
+    (IsSet-kept (2 ^ s.variables) (λ y. together s.factors.items (has_slot y))))
     ∙ maybe_variable s.arity c.in-Var.number _ c.args.term.now _ c.in-Var.is refl)
     c.may_be_false.result c.may_be_false.ensures

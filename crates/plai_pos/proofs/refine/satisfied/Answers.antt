@@ -10,12 +10,14 @@ use Rattle.plai_pos.proofs.Terms.{term_below}
 use Rattle.plai_pos.proofs.refine.satisfied.Goals as goal
 
 pub truth-requires-clause-below : goal.truth-requires-clause-below
-truth-requires-clause-below c = term_below c.args.state.now.variables c.args.args.now (c.args.argument - 1) c.index-args-argument.result c.requires.below c.index-args-argument.is (omega (arith, c.requires.argument.0, c.requires.argument.1))
+truth-requires-clause-below c = term_below c.args.state.now.variables c.args.args.now (c.args.argument - 1) c.index-args-argument.result c.requires.below
+    c.index-args-argument.is (omega (arith, c.requires.argument.0, c.requires.argument.1))
 
 pub with_function-requires : goal.with_function-requires
 with_function-requires c =
     truth_positive c.args.state.now.variables c.in_ok-all.all c.index-args-argument.result
-    (term_below c.args.state.now.variables c.args.args.now (c.args.argument - 1) c.index-args-argument.result c.requires.below c.index-args-argument.is (omega (arith, c.requires.argument.0, c.requires.argument.1)))
+    (term_below c.args.state.now.variables c.args.args.now (c.args.argument - 1) c.index-args-argument.result c.requires.below c.index-args-argument.is
+    (omega (arith, c.requires.argument.0, c.requires.argument.1)))
     c.in_ok-all.ensures
 
 pub returns : goal.returns
@@ -25,7 +27,8 @@ returns c =
     ok_then _ _
     (λ next h.
     h ∙ ap (state_with s.arity s.variables)
-    (satisfied_is s.arity s.variables s.sets.items ys s.size (IsSet-kept (2 ^ s.variables) (λ y. together s.factors.items (has_slot y))) c.args.args.now c.requires.below _
+    (satisfied_is s.arity s.variables s.sets.items ys s.size (IsSet-kept (2 ^ s.variables) (λ y. together s.factors.items (has_slot y))) c.args.args.now
+    c.requires.below _
     (c.args.argument - 1) (omega (arith, c.requires.argument.0, c.requires.argument.1)) c.index-args-argument.result c.index-args-argument.is
     (λ i. filter (λ y. c.in_ok-all.ensures.answers (has_slot y) i) ys)))
     c.with_function.result c.with_function.ensures

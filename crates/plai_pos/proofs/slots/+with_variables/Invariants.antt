@@ -14,5 +14,6 @@ abbrev pub invariant-loop-arg : goal.invariant-loop-arg
 invariant-loop-arg l = record {
   term : list_all (λ b. b) (map (has_variables_below l.variables) (drop l.arg-index l.arg-items)) ≡ true;
   below : IsBelow l.variables l.all;
-  all : (at : Assignment) → (conjunction l.all at && list_all (λ b. b) (map (holds at) (drop l.arg-index l.arg-items))) ≡ (conjunction l.fn.slots at && holds at l.term);
+  all : (at : Assignment) → (conjunction l.all at && list_all (λ b. b) (map (holds at) (drop l.arg-index l.arg-items)))
+      ≡ (conjunction l.fn.slots at && holds at l.term);
 }

@@ -5,7 +5,8 @@ use Rattle.plai_reader.proofs.read.read.Goals as goal
 
 pub loop-token-init : goal.loop-token-init
 loop-token-init c =
-    subst (Passes c.args.ops.now c.args.tokens.now c.args.tokens.now) (sym c.begin_reader-reader.ensures) (passes_start c.args.ops.now c.args.tokens.now c.requires.written)
+    subst (Passes c.args.ops.now c.args.tokens.now c.args.tokens.now) (sym c.begin_reader-reader.ensures)
+    (passes_start c.args.ops.now c.args.tokens.now c.requires.written)
 
 pub loop-token-preserved : goal.loop-token-preserved
 loop-token-preserved c =

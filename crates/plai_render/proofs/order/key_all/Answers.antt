@@ -10,6 +10,7 @@ loop-row-preserved c = record {
   narrow = (All-pop IsNarrow c.loop-row.rows.items c.pop.new.self.items c.pop.result c.pop.ensures.items c.loop-row.invariant.narrow).0;
   room = grind (arith, common_steps);
   back = grind (arith, common_steps);
-  same = one_moved (λ k. k.row) (map (λ k. k.row) c.args.keyed.now.items ++ c.args.rows.now.items) c.loop-row.keyed.items c.push_reserved.new.self.items c.loop-row.rows.items c.pop.new.self.items _
+  same = one_moved (λ k. k.row) (map (λ k. k.row) c.args.keyed.now.items ++ c.args.rows.now.items) c.loop-row.keyed.items c.push_reserved.new.self.items
+      c.loop-row.rows.items c.pop.new.self.items _
       c.loop-row.invariant.same (c.pop.ensures.items ∙ ap (λ o. c.pop.new.self.items ++ option_to_list o) c.in-Some.is) c.push_reserved.ensures.items;
 }

@@ -29,7 +29,8 @@ came_back c e =
 up : (c : goal.After-drop-keyed) → IsUp row_order (map (λ k. k.row) c.sort_unstable_by.new.self.items)
 up c =
     let keyed = c.sort_unstable_by.new.self.items in
-    let sorted = c.sort_unstable_by.ensures.sorted (λ x y. is_lt (text_row_order x.text y.text)) (ranks_by text_row_total (λ k. k.text)) (always_returns_same _ _ _ (λ a r f k. search rules)) in
+    let sorted = c.sort_unstable_by.ensures.sorted (λ x y. is_lt (text_row_order x.text y.text)) (ranks_by text_row_total (λ k. k.text))
+    (always_returns_same _ _ _ (λ a r f k. search rules)) in
     let texts : IsUp text_row_order (map (λ k. k.text) keyed) =
     up_map text_row_order (λ k. k.text) keyed (up_from_sorted (λ x y. text_row_order x.text y.text) (on_total (λ k. k.text) text_row_total) keyed sorted) in
     up_rows (map (λ k. k.row) keyed) (subst (IsUp text_row_order) (keyed_texts keyed) texts)
@@ -41,5 +42,6 @@ returns-clause-sorted c =
 pub returns-clause-in_order : goal.returns-clause-in_order
 returns-clause-in_order c =
     on_ok_weaker c.key_all-printed.result
-    (λ e apart. in_order c.args.rows.now.items c.reverse.new.self.items (returns-clause-permutation c) (subst (λ rows. IsUp row_order rows) (sym (came_back c e)) (up c)) apart)
+    (λ e apart. in_order c.args.rows.now.items c.reverse.new.self.items (returns-clause-permutation c)
+    (subst (λ rows. IsUp row_order rows) (sym (came_back c e)) (up c)) apart)
     c.key_all-printed.ensures.all

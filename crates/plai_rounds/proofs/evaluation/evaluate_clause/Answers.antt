@@ -14,5 +14,8 @@ returns-in-Ok-clause-ok g c =
     }
 
 pub returns-in_ok-to_abs-in-Err-Over-clause-err : goal.returns-in_ok-to_abs-in-Err-Over-clause-err
-returns-in_ok-to_abs-in-Err-Over-clause-err g c =
-    ((λ i. record { pred = c.in_ok-copy-in-Err-Over.ensures i; call = c.in_ok-to_abs-in-Err-Over.ensures i }), refl, rw c.in-Err-Over.field-0-is at c.in-Err-Over.ensures.over)
+returns-in_ok-to_abs-in-Err-Over-clause-err g c = (
+  (λ i. record { pred = c.in_ok-copy-in-Err-Over.ensures i; call = c.in_ok-to_abs-in-Err-Over.ensures i }),
+  refl,
+  rw c.in-Err-Over.field-0-is at c.in-Err-Over.ensures.over,
+)

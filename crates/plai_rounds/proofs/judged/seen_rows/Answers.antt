@@ -20,9 +20,11 @@ loop-index-preserved g c =
     let names = names_in value_of c.args.reached.now.entries in
     let here = name_at_place value_of c.args.reached.now.entries c.loop-index.index key c.name_at-name.ensures in
     let row : Row g.row.D-Value.Denot = record { name = c.name_at-name.result; answer = c.answer_in-answer.result } in
-    let call = reached_call p laws program c.requires.well_formed c.args.task.now.limit rows c.requires.done (key_name value_of key) (c.requires.reaching.reached (key_name value_of key) (get_in names c.loop-index.index (key_name value_of key) here)) in
+    let call = reached_call p laws program c.requires.well_formed c.args.task.now.limit rows c.requires.done (key_name value_of key)
+    (c.requires.reaching.reached (key_name value_of key) (get_in names c.loop-index.index (key_name value_of key) here)) in
     record {
-      rows = seen_more value_of p rows names c.loop-index.index (key_name value_of key) c.loop-index.seen.items c.push.new.self.items row here c.loop-index.invariant.rows
+      rows = seen_more value_of p rows names c.loop-index.index (key_name value_of key) c.loop-index.seen.items c.push.new.self.items row here
+          c.loop-index.invariant.rows
           (row_plain value_of p rows row c.answer_in-answer.ensures) c.in_ok-push.ensures.items;
       fit = subst (λ (seen : List (Row g.row.D-Value.Denot)). All (IsFit value_of p) seen) (sym c.in_ok-push.ensures.items)
           (All-push (IsFit value_of p) c.loop-index.seen.items row c.loop-index.invariant.fit

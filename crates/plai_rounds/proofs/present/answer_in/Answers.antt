@@ -9,8 +9,10 @@ pub returns : goal.returns
 returns g c =
     let value_of = g.D.Domain.value_of in
     let entries = c.args.rows.now.entries in
-    let there : lookup (same_key _ value_of g.D.Value.PartialEq.eq g.met.D.Domain.equal c.args.name.now) entries ≡ Some c.in_ok-answer.answer.now = sym c.in_ok-answer.ensures.value in
-    copied_map value_of c.as_ref.result ∙ ap (option_map value_of) c.as_ref.ensures.value ∙ ap (λ o. option_map value_of (joined _ value_of g.D.Value.PartialEq.eq g.met.D.Domain.equal o)) (sym there)
+    let there : lookup (same_key _ value_of g.D.Value.PartialEq.eq g.met.D.Domain.equal c.args.name.now) entries ≡ Some c.in_ok-answer.answer.now =
+    sym c.in_ok-answer.ensures.value in
+    copied_map value_of c.as_ref.result ∙ ap (option_map value_of) c.as_ref.ensures.value
+    ∙ ap (λ o. option_map value_of (joined _ value_of g.D.Value.PartialEq.eq g.met.D.Domain.equal o)) (sym there)
     ∙ looked_up _ value_of g.D.Value.PartialEq.eq g.met.D.Domain.equal (g.D.Domain.plain c.args._domain.now) c.args.name.now entries
 
 pub returns-in_err-answer : goal.returns-in_err-answer

@@ -30,4 +30,5 @@ returns-in_err-add_all-clause-causes g c =
     let names = map (key_name value_of) c.in_ok-keys.keys.items in
     let told : IfErr c.from_residual-in_err-add_all.result (StopsAdding _ value_of limit names c.new-rows.result.entries) = search rules in
     if_err (StopsAdding _ value_of limit names c.new-rows.result.entries) (HasCause p program limit) c.from_residual-in_err-add_all.result told
-    (begin_cause _ value_of p program limit (g.met.D.Domain.lawful c.args.task.now.domain.now) c.requires names c.in_ok-keys.ensures c.new-rows.result.entries c.new-rows.ensures.empty)
+    (begin_cause _ value_of p program limit (g.met.D.Domain.lawful c.args.task.now.domain.now) c.requires names c.in_ok-keys.ensures c.new-rows.result.entries
+    c.new-rows.ensures.empty)

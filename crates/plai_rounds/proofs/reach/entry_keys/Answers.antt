@@ -22,7 +22,8 @@ describe-requires-clause-within g c =
     let entry = c.entry-item.result in
     let i : IsIn entry c.entries-entry-items.result.now = in_at _ c.loop-entry.entry-index entry c.loop-entry-test.true c.entry-item.is in
     let pre : All (speaks_within entry.pred.arity) entry.pre = (c.requires.entries entry (subst (IsIn entry) c.entries-entry-items.ensures i)).pre in
-    subst (λ (k : PredKey). All (speaks_within k.arity) c.as_slice.result.now) (sym c.in_ok-pred.ensures) (subst (All (speaks_within entry.pred.arity)) (sym c.as_slice.ensures) pre)
+    subst (λ (k : PredKey). All (speaks_within k.arity) c.as_slice.result.now) (sym c.in_ok-pred.ensures)
+    (subst (All (speaks_within entry.pred.arity)) (sym c.as_slice.ensures) pre)
 
 pub loop-entry-preserved : goal.loop-entry-preserved
 loop-entry-preserved g c =
@@ -30,9 +31,12 @@ loop-entry-preserved g c =
     let value_of = g.D.Domain.value_of in
     let entry = c.entry-item.result in
     let key : Key g.row.D-Value.Denot = record { pred = c.in_ok-pred.pred; call = c.in_ok-call.call } in
-    let is : key_name value_of key ≡ entry_pair p entry = key_is p entry c.in_ok-pred.pred (value_of c.in_ok-call.call) c.as_slice.result.now c.in_ok-pred.ensures c.as_slice.ensures c.in_ok-call.ensures in
-    subst (λ items. map (key_name value_of) items ≡ map (entry_pair p) (take (c.loop-entry.entry-index + 1) c.entries-entry-items.result.now)) (sym c.in_ok-push.ensures.items)
-    (entries_more value_of p c.loop-entry.keys.items key c.entries-entry-items.result.now c.loop-entry.entry-index entry c.loop-entry-test.true c.entry-item.is c.loop-entry.invariant is)
+    let is : key_name value_of key ≡ entry_pair p entry =
+    key_is p entry c.in_ok-pred.pred (value_of c.in_ok-call.call) c.as_slice.result.now c.in_ok-pred.ensures c.as_slice.ensures c.in_ok-call.ensures in
+    subst (λ items. map (key_name value_of) items ≡ map (entry_pair p) (take (c.loop-entry.entry-index + 1) c.entries-entry-items.result.now))
+    (sym c.in_ok-push.ensures.items)
+    (entries_more value_of p c.loop-entry.keys.items key c.entries-entry-items.result.now c.loop-entry.entry-index entry c.loop-entry-test.true
+    c.entry-item.is c.loop-entry.invariant is)
 
 pub returns : goal.returns
 returns g c =

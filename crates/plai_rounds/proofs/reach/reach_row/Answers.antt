@@ -10,7 +10,8 @@ pub loop-clause-init : goal.loop-clause-init
 loop-clause-init g c =
     let p = g.D.Domain.plain c.args.task.now.domain.now in
     record {
-      step = no_reach p c.args.task.now.program.now c.args.task.now.limit (rows_of g.D.Domain.value_of p c.args.rows.now.entries) (names_in g.D.Domain.value_of c.args.reached.now.entries) c.requires.reaching;
+      step = no_reach p c.args.task.now.program.now c.args.task.now.limit (rows_of g.D.Domain.value_of p c.args.rows.now.entries)
+          (names_in g.D.Domain.value_of c.args.reached.now.entries) c.requires.reaching;
       number = refl;
       calls = λ k d h. absurd (omega arith);
     }
@@ -29,10 +30,12 @@ reach_clause-requires-clause-clause g c =
     let value_of = g.D.Domain.value_of in
     let program = c.args.task.now.program.now in
     let key = c.name_at-name.result.now in
-    let here = c.loop-clause.invariant.step.keeps c.args.index (key_name value_of key) (name_at_place value_of c.args.reached.now.entries c.args.index key c.name_at-name.ensures) in
+    let here = c.loop-clause.invariant.step.keeps c.args.index (key_name value_of key)
+    (name_at_place value_of c.args.reached.now.entries c.args.index key c.name_at-name.ensures) in
     let n = numbered c.clauses_of-clauses.result.now c.loop-clause.clause-index c.loop-clause.number c.clause-item.result c.loop-clause.invariant.number
     (get_or_get _ c.loop-clause.clause-index _ c.loop-clause-test.true c.clause-item.is) in
-    let of : IsClauseOf program key.pred (c.loop-clause.number + 1) c.clause-item.result = (n.0, subst (λ clauses. slice_get clauses (c.loop-clause.number + 1 - 1) ≡ Some c.clause-item.result) c.clauses_of-clauses.ensures n.1) in
+    let of : IsClauseOf program key.pred (c.loop-clause.number + 1) c.clause-item.result =
+    (n.0, subst (λ clauses. slice_get clauses (c.loop-clause.number + 1 - 1) ≡ Some c.clause-item.result) c.clauses_of-clauses.ensures n.1) in
     λ x is.
     subst (λ y. IsClauseOf program y.pred (c.loop-clause.number + 1) c.clause-item.result) (same_place _ c.args.index (key_name value_of key) x here is) of
 
@@ -49,8 +52,10 @@ loop-clause-preserved g c =
     record {
       step = reach_then p program limit rows old mid new c.loop-clause.invariant.step c.in_ok-reach_clause.ensures.step;
       number = ap (λ n. n + 1) c.loop-clause.invariant.number;
-      calls = called_more p program limit rows old mid new c.loop-clause.invariant.step c.in_ok-reach_clause.ensures.step c.clauses_of-clauses.result.now c.args.index c.loop-clause.clause-index
-          c.clause-item.result (get_or_get _ c.loop-clause.clause-index _ c.loop-clause-test.true c.clause-item.is) c.loop-clause.invariant.calls c.in_ok-reach_clause.ensures.calls;
+      calls = called_more p program limit rows old mid new c.loop-clause.invariant.step c.in_ok-reach_clause.ensures.step c.clauses_of-clauses.result.now
+          c.args.index c.loop-clause.clause-index
+          c.clause-item.result (get_or_get _ c.loop-clause.clause-index _ c.loop-clause-test.true c.clause-item.is) c.loop-clause.invariant.calls
+          c.in_ok-reach_clause.ensures.calls;
     }
 
 pub returns-clause-calls : goal.returns-clause-calls
@@ -61,6 +66,7 @@ returns-clause-calls g c =
     let key = c.name_at-name.result.now in
     let here = name_at_place value_of c.args.reached.now.entries c.args.index key c.name_at-name.ensures in
     λ x is.
-    called_all p program (rows_of value_of p c.args.rows.now.entries) (names_in value_of c.args.reached.now.entries) (names_in value_of c.loop-clause.reached.entries) c.args.index
+    called_all p program (rows_of value_of p c.args.rows.now.entries) (names_in value_of c.args.reached.now.entries)
+    (names_in value_of c.loop-clause.reached.entries) c.args.index
     c.clauses_of-clauses.result.now (key_name value_of key) x c.clauses_of-clauses.ensures (same_place _ c.args.index (key_name value_of key) x here is)
     (λ k d h. c.loop-clause.invariant.calls k d (omega arith)) is

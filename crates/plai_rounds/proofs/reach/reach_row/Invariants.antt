@@ -17,5 +17,6 @@ invariant-loop-clause g l =
     record {
       step : IsReachStep p l.task.program.now l.task.limit rows old now;
       number : l.number ≡ l.clause-index;
-      calls : (k : ℕ) (c : Clause) → k < l.clause-index → slice_get l.clauses k ≡ Some c → (x : Name PredKey Abs) → slice_get old l.index ≡ Some x → HasCalls p rows now x c;
+      calls : (k : ℕ) (c : Clause) → k < l.clause-index → slice_get l.clauses k ≡ Some c → (x : Name PredKey Abs) → slice_get old l.index ≡ Some x
+          → HasCalls p rows now x c;
     }

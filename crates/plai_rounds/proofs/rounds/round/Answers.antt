@@ -13,7 +13,8 @@ returns-clause-step g c =
     let old = rows_of value_of p c.args.rows.now.entries in
     let mid = rows_of value_of p c.sweep_up.new.rows.entries in
     let new = rows_of value_of p c.sweep_down.new.rows.entries in
-    subst (IsStep p program limit old new) (sym c.and.ensures) (step_then p program limit old mid new c.in_ok-up.up c.in_ok-down.down c.in_ok-up.ensures.step c.in_ok-down.ensures.step)
+    subst (IsStep p program limit old new) (sym c.and.ensures)
+    (step_then p program limit old mid new c.in_ok-up.up c.in_ok-down.down c.in_ok-up.ensures.step c.in_ok-down.ensures.step)
 
 pub returns-clause-quiet : goal.returns-clause-quiet
 returns-clause-quiet g c = λ none. c.in_ok-up.ensures.quiet (both_nothing c.in_ok-up.up c.in_ok-down.down (sym c.and.ensures ∙ none)).0

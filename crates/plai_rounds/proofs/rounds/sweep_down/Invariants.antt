@@ -8,7 +8,8 @@ abbrev pub invariant-loop-index : goal.invariant-loop-index
 invariant-loop-index g l =
     let p = g.D.Domain.plain l.task.domain.now in
     record {
-      step : IsStep p l.task.program.now l.task.limit (rows_of g.D.Domain.value_of p l.initial.rows.entries) (rows_of g.D.Domain.value_of p l.rows.entries) l.change;
+      step : IsStep p l.task.program.now l.task.limit (rows_of g.D.Domain.value_of p l.initial.rows.entries)
+          (rows_of g.D.Domain.value_of p l.rows.entries) l.change;
       within : l.index ≤ length l.rows.entries;
     }
 

@@ -27,9 +27,11 @@ work_clause-requires-clause-clause g c =
     let here = c.loop-clause.invariant.step.keeps c.args.index (key_name value_of key) (at_name value_of p c.args.rows.now.entries c.args.index key had at) in
     let n = numbered c.clauses_of-clauses.result.now c.loop-clause.clause-index c.loop-clause.number c.clause-item.result c.loop-clause.invariant.number
     (get_or_get _ c.loop-clause.clause-index _ c.loop-clause-test.true c.clause-item.is) in
-    let of : IsClauseOf program key.pred (c.loop-clause.number + 1) c.clause-item.result = (n.0, subst (λ clauses. slice_get clauses (c.loop-clause.number + 1 - 1) ≡ Some c.clause-item.result) c.clauses_of-clauses.ensures n.1) in
+    let of : IsClauseOf program key.pred (c.loop-clause.number + 1) c.clause-item.result =
+    (n.0, subst (λ clauses. slice_get clauses (c.loop-clause.number + 1 - 1) ≡ Some c.clause-item.result) c.clauses_of-clauses.ensures n.1) in
     λ x is.
-    subst (λ y. IsClauseOf program y.pred (c.loop-clause.number + 1) c.clause-item.result) (one_name p (rows_of value_of p c.loop-clause.rows.entries) c.args.index (key_name value_of key) x here is) of
+    subst (λ y. IsClauseOf program y.pred (c.loop-clause.number + 1) c.clause-item.result)
+    (one_name p (rows_of value_of p c.loop-clause.rows.entries) c.args.index (key_name value_of key) x here is) of
 
 pub loop-clause-preserved : goal.loop-clause-preserved
 loop-clause-preserved g c =
@@ -45,8 +47,10 @@ loop-clause-preserved g c =
           (step_then p program limit old mid new c.loop-clause.change c.in_ok-next.next c.loop-clause.invariant.step c.in_ok-next.ensures.step);
       number = ap (λ n. n + 1) c.loop-clause.invariant.number;
       quiet = λ none.
-          clauses_more p program limit old mid new c.loop-clause.change c.in_ok-next.next c.loop-clause.invariant.step c.in_ok-next.ensures.step c.clauses_of-clauses.result.now c.args.index c.loop-clause.clause-index
-          c.clause-item.result (get_or_get _ c.loop-clause.clause-index _ c.loop-clause-test.true c.clause-item.is) c.loop-clause.invariant.quiet c.in_ok-next.ensures.quiet (sym c.and-change.ensures ∙ none);
+          clauses_more p program limit old mid new c.loop-clause.change c.in_ok-next.next c.loop-clause.invariant.step c.in_ok-next.ensures.step
+          c.clauses_of-clauses.result.now c.args.index c.loop-clause.clause-index
+          c.clause-item.result (get_or_get _ c.loop-clause.clause-index _ c.loop-clause-test.true c.clause-item.is) c.loop-clause.invariant.quiet
+          c.in_ok-next.ensures.quiet (sym c.and-change.ensures ∙ none);
     }
 
 pub returns-clause-quiet : goal.returns-clause-quiet
@@ -59,5 +63,6 @@ returns-clause-quiet g c =
     let (had, at) = entry_at c.args.rows.now.entries c.args.index key c.name_at-name.ensures in
     let here = at_name value_of p c.args.rows.now.entries c.args.index key had at in
     λ none x is.
-    clauses_all p program old c.args.index c.clauses_of-clauses.result.now (key_name value_of key) x c.clauses_of-clauses.ensures (one_name p old c.args.index (key_name value_of key) x here is)
+    clauses_all p program old c.args.index c.clauses_of-clauses.result.now (key_name value_of key) x c.clauses_of-clauses.ensures
+    (one_name p old c.args.index (key_name value_of key) x here is)
     (λ k d h. c.loop-clause.invariant.quiet none k d (omega arith)) is

@@ -22,15 +22,20 @@ pub loop-key-preserved : goal.loop-key-preserved
 loop-key-preserved g c =
     let value_of = g.D.Domain.value_of in
     let h = c.into_iter-key-iterator.ensures.into_iter_gives in
-    let turn = YieldsList-turn (YieldsList-from_vec {s = c.into_iter-key-iterator.result} c.args.keys.items h.0 (search (rules, h.1))) c.loop-key.yielded c.loop-key.key-iterator c.loop-key.yielded_by c.next.result c.next.new.self c.in-Some.key c.in-Some.is c.next.ensures.steps in
-    let is : IsIn (key_name value_of c.in-Some.key) (map (key_name value_of) c.args.keys.items) = in_map (key_name value_of) c.args.keys.items c.in-Some.key (in_at c.args.keys.items _ c.in-Some.key turn.0 turn.1) in
+    let turn = YieldsList-turn (YieldsList-from_vec {s = c.into_iter-key-iterator.result} c.args.keys.items h.0 (search (rules, h.1))) c.loop-key.yielded
+    c.loop-key.key-iterator c.loop-key.yielded_by c.next.result c.next.new.self c.in-Some.key c.in-Some.is c.next.ensures.steps in
+    let is : IsIn (key_name value_of c.in-Some.key) (map (key_name value_of) c.args.keys.items) =
+    in_map (key_name value_of) c.args.keys.items c.in-Some.key (in_at c.args.keys.items _ c.in-Some.key turn.0 turn.1) in
     let added : IsAdded _ value_of c.args.limit c.in-Some.key c.loop-key.rows.entries c.add.new.rows.entries c.in_ok-add.field-0 = c.in_ok-add.ensures.ok in
-    let known : IsAdded _ value_of c.args.limit c.in-Some.key c.loop-key.rows.entries c.add.new.rows.entries false = subst (IsAdded _ value_of c.args.limit c.in-Some.key c.loop-key.rows.entries c.add.new.rows.entries) c.if-branch.false added in
+    let known : IsAdded _ value_of c.args.limit c.in-Some.key c.loop-key.rows.entries c.add.new.rows.entries false =
+    subst (IsAdded _ value_of c.args.limit c.in-Some.key c.loop-key.rows.entries c.add.new.rows.entries) c.if-branch.false added in
     record {
       can = tt;
       finite = tt;
-      adds = adds_one _ value_of c.args.limit _ c.args.rows.now.entries c.loop-key.rows.entries c.add.new.rows.entries c.in-Some.key c.in_ok-add.field-0 is added c.loop-key.invariant.adds;
-      all = all_more _ value_of c.args.limit c.loop-key.rows.entries c.add.new.rows.entries c.in-Some.key c.in_ok-add.field-0 added c.loop-key.yielded c.loop-key.invariant.all;
+      adds = adds_one _ value_of c.args.limit _ c.args.rows.now.entries c.loop-key.rows.entries c.add.new.rows.entries c.in-Some.key c.in_ok-add.field-0 is
+          added c.loop-key.invariant.adds;
+      all = all_more _ value_of c.args.limit c.loop-key.rows.entries c.add.new.rows.entries c.in-Some.key c.in_ok-add.field-0 added c.loop-key.yielded
+          c.loop-key.invariant.all;
       same = λ e. known.0 ∙ c.loop-key.invariant.same e;
       more = λ e. subst (λ n. length c.args.rows.now.entries < length n) (sym known.0) (c.loop-key.invariant.more e);
     }
@@ -39,16 +44,22 @@ pub loop-key-preserved-then-branch : goal.loop-key-preserved-then-branch
 loop-key-preserved-then-branch g c =
     let value_of = g.D.Domain.value_of in
     let h = c.into_iter-key-iterator.ensures.into_iter_gives in
-    let turn = YieldsList-turn (YieldsList-from_vec {s = c.into_iter-key-iterator.result} c.args.keys.items h.0 (search (rules, h.1))) c.loop-key.yielded c.loop-key.key-iterator c.loop-key.yielded_by c.next.result c.next.new.self c.in-Some.key c.in-Some.is c.next.ensures.steps in
-    let is : IsIn (key_name value_of c.in-Some.key) (map (key_name value_of) c.args.keys.items) = in_map (key_name value_of) c.args.keys.items c.in-Some.key (in_at c.args.keys.items _ c.in-Some.key turn.0 turn.1) in
+    let turn = YieldsList-turn (YieldsList-from_vec {s = c.into_iter-key-iterator.result} c.args.keys.items h.0 (search (rules, h.1))) c.loop-key.yielded
+    c.loop-key.key-iterator c.loop-key.yielded_by c.next.result c.next.new.self c.in-Some.key c.in-Some.is c.next.ensures.steps in
+    let is : IsIn (key_name value_of c.in-Some.key) (map (key_name value_of) c.args.keys.items) =
+    in_map (key_name value_of) c.args.keys.items c.in-Some.key (in_at c.args.keys.items _ c.in-Some.key turn.0 turn.1) in
     let added : IsAdded _ value_of c.args.limit c.in-Some.key c.loop-key.rows.entries c.add.new.rows.entries c.in_ok-add.field-0 = c.in_ok-add.ensures.ok in
-    let first : length c.args.rows.now.entries ≤ length c.loop-key.rows.entries = adds_longer _ value_of c.args.limit _ c.args.rows.now.entries c.loop-key.invariant.adds in
-    let last : length c.loop-key.rows.entries < length c.add.new.rows.entries = (longer _ value_of c.args.limit c.loop-key.rows.entries c.add.new.rows.entries c.in-Some.key c.in_ok-add.field-0 added).1 c.if-branch.true in
+    let first : length c.args.rows.now.entries ≤ length c.loop-key.rows.entries =
+    adds_longer _ value_of c.args.limit _ c.args.rows.now.entries c.loop-key.invariant.adds in
+    let last : length c.loop-key.rows.entries < length c.add.new.rows.entries =
+    (longer _ value_of c.args.limit c.loop-key.rows.entries c.add.new.rows.entries c.in-Some.key c.in_ok-add.field-0 added).1 c.if-branch.true in
     record {
       can = tt;
       finite = tt;
-      adds = adds_one _ value_of c.args.limit _ c.args.rows.now.entries c.loop-key.rows.entries c.add.new.rows.entries c.in-Some.key c.in_ok-add.field-0 is added c.loop-key.invariant.adds;
-      all = all_more _ value_of c.args.limit c.loop-key.rows.entries c.add.new.rows.entries c.in-Some.key c.in_ok-add.field-0 added c.loop-key.yielded c.loop-key.invariant.all;
+      adds = adds_one _ value_of c.args.limit _ c.args.rows.now.entries c.loop-key.rows.entries c.add.new.rows.entries c.in-Some.key c.in_ok-add.field-0 is
+          added c.loop-key.invariant.adds;
+      all = all_more _ value_of c.args.limit c.loop-key.rows.entries c.add.new.rows.entries c.in-Some.key c.in_ok-add.field-0 added c.loop-key.yielded
+          c.loop-key.invariant.all;
       same = λ e. cc;
       more = λ e. omega arith;
     }
@@ -57,17 +68,21 @@ pub returns-in_err-add-clause-err : goal.returns-in_err-add-clause-err
 returns-in_err-add-clause-err g c =
     let value_of = g.D.Domain.value_of in
     let h = c.into_iter-key-iterator.ensures.into_iter_gives in
-    let turn = YieldsList-turn (YieldsList-from_vec {s = c.into_iter-key-iterator.result} c.args.keys.items h.0 (search (rules, h.1))) c.loop-key.yielded c.loop-key.key-iterator c.loop-key.yielded_by c.next.result c.next.new.self c.in-Some.key c.in-Some.is c.next.ensures.steps in
-    let is : IsIn (key_name value_of c.in-Some.key) (map (key_name value_of) c.args.keys.items) = in_map (key_name value_of) c.args.keys.items c.in-Some.key (in_at c.args.keys.items _ c.in-Some.key turn.0 turn.1) in
+    let turn = YieldsList-turn (YieldsList-from_vec {s = c.into_iter-key-iterator.result} c.args.keys.items h.0 (search (rules, h.1))) c.loop-key.yielded
+    c.loop-key.key-iterator c.loop-key.yielded_by c.next.result c.next.new.self c.in-Some.key c.in-Some.is c.next.ensures.steps in
+    let is : IsIn (key_name value_of c.in-Some.key) (map (key_name value_of) c.args.keys.items) =
+    in_map (key_name value_of) c.args.keys.items c.in-Some.key (in_at c.args.keys.items _ c.in-Some.key turn.0 turn.1) in
     let told : IfErr c.from_residual.result (HasNoRoom _ value_of c.args.limit c.in-Some.key c.loop-key.rows.entries) = search rules in
-    if_err (HasNoRoom _ value_of c.args.limit c.in-Some.key c.loop-key.rows.entries) (StopsAdding _ value_of c.args.limit _ c.args.rows.now.entries) c.from_residual.result told
+    if_err (HasNoRoom _ value_of c.args.limit c.in-Some.key c.loop-key.rows.entries) (StopsAdding _ value_of c.args.limit _ c.args.rows.now.entries)
+    c.from_residual.result told
     (λ e k. stops _ value_of c.args.limit _ c.args.rows.now.entries c.loop-key.rows.entries c.in-Some.key e c.loop-key.invariant.adds is k)
 
 pub returns-clause-ok : goal.returns-clause-ok
 returns-clause-ok g c =
     let value_of = g.D.Domain.value_of in
     let h = c.into_iter-key-iterator.ensures.into_iter_gives in
-    let end = YieldsList-end (YieldsList-from_vec {s = c.into_iter-key-iterator.result} c.args.keys.items h.0 (search (rules, h.1))) c.loop-key.yielded c.loop-key.key-iterator c.loop-key.yielded_by c.next.result c.next.new.self c.in-None.is c.next.ensures.steps in
+    let end = YieldsList-end (YieldsList-from_vec {s = c.into_iter-key-iterator.result} c.args.keys.items h.0 (search (rules, h.1))) c.loop-key.yielded
+    c.loop-key.key-iterator c.loop-key.yielded_by c.next.result c.next.new.self c.in-None.is c.next.ensures.steps in
     let whole : c.loop-key.yielded ≡ c.args.keys.items = sym (map_same c.loop-key.yielded) ∙ end.0 in
     record {
       adds = c.loop-key.invariant.adds;

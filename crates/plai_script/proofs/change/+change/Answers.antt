@@ -12,11 +12,13 @@ change-returns-in-Add t c =
 
 pub change-returns-in-Entry : goal.change-returns-in-Entry
 change-returns-in-Entry t c =
-    leaves-Entry c.args.program.now c.add_entry.new.program c.args.edit.now c.add_entry.result c.in-Entry.module c.in-Entry.entry c.in-Entry.is c.add_entry.ensures
+    leaves-Entry c.args.program.now c.add_entry.new.program c.args.edit.now c.add_entry.result c.in-Entry.module c.in-Entry.entry c.in-Entry.is
+    c.add_entry.ensures
 
 pub change-returns-in-Check : goal.change-returns-in-Check
 change-returns-in-Check t c =
-    leaves-Check c.args.program.now c.add_check.new.program c.args.edit.now c.add_check.result c.in-Check.module c.in-Check.check c.in-Check.is c.add_check.ensures
+    leaves-Check c.args.program.now c.add_check.new.program c.args.edit.now c.add_check.result c.in-Check.module c.in-Check.check c.in-Check.is
+    c.add_check.ensures
 
 pub change-change_all-requires : goal.change-change_all-requires
 change-change_all-requires t c = (
@@ -26,4 +28,5 @@ change-change_all-requires t c = (
 
 pub change-returns-in-All : goal.change-returns-in-All
 change-returns-in-All t c =
-    leaves-All c.args.program.now c.change_all.new.program c.args.edit.now c.change_all.result c.in-All.edits c.as_slice.result.now c.in-All.is c.as_slice.ensures c.change_all.ensures
+    leaves-All c.args.program.now c.change_all.new.program c.args.edit.now c.change_all.result c.in-All.edits c.as_slice.result.now c.in-All.is
+    c.as_slice.ensures c.change_all.ensures

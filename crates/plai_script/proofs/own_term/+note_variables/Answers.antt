@@ -8,5 +8,6 @@ loop-arg-preserved t c =
 
 pub returns-after-loop-arg : goal.returns-after-loop-arg
 returns-after-loop-arg t c =
-    noted_all c.args.seen.now.keys c.loop-arg.seen.keys c.in-Compound.args c.as_slice-arg-items.result.now c.loop-arg.arg-index c.args.term.now c.in-Compound.field-0
+    noted_all c.args.seen.now.keys c.loop-arg.seen.keys c.in-Compound.args c.as_slice-arg-items.result.now c.loop-arg.arg-index c.args.term.now
+    c.in-Compound.field-0
     c.loop-arg-test.false c.in-Compound.is c.as_slice-arg-items.ensures.items c.loop-arg.invariant

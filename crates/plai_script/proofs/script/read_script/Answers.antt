@@ -44,7 +44,8 @@ loop-items-preserved c =
     let from = c.loop-items.invariant.from in
     let room = c.loop-items.invariant.room in
     record {
-      same = goes_on (script_of c.args.text.now) c.loop-items.items.items c.push.new.self.items c.loop-items.number c.loop-items.lexer c.take.new.lexer c.in-Some.tokens.items
+      same = goes_on (script_of c.args.text.now) c.loop-items.items.items c.push.new.self.items c.loop-items.number c.loop-items.lexer c.take.new.lexer
+          c.in-Some.tokens.items
           c.in_ok-item.field-0 c.loop-items.invariant.same takes.0 takes.1 (c.in_ok-item.ensures.item ∙ ap item_of c.as_slice.ensures.value)
           (c.in_ok-push.ensures.items ∙ ap (λ (l : List (Result Edit EditCause)). l ++ c.in_ok-item.field-0 ∷ []) takes.2);
       readable =

@@ -42,7 +42,8 @@ returns c =
     let action = c.args.action.now in
     let v = shares s.sharing in
     let wide = shares c.in_ok-wide.wide in (
-      refine_sizes n sides action v wide c.extend.new.sets c.in_ok-wide.ensures.part.1 c.in_ok-wide.ensures.part.0 c.in_ok-wide.ensures.count c.in_ok-after.ensures.0,
+      refine_sizes n sides action v wide c.extend.new.sets c.in_ok-wide.ensures.part.1 c.in_ok-wide.ensures.part.0 c.in_ok-wide.ensures.count
+          c.in_ok-after.ensures.0,
       refine_some n sides action v s.arity s.variables wide (shares c.in-Some.after) (shares c.in_ok-sharing.sharing)
           c.in_ok-wide.ensures.part.1 (ap (option_map shares) (sym c.in-Some.is) ∙ c.in_ok-after.ensures.1) c.in_ok-sharing.ensures,
     )

@@ -6,8 +6,10 @@ use Rattle.plai_share.proofs.side.+term_slots.Goals as goal
 
 pub loop-arg-preserved : goal.loop-arg-preserved
 loop-arg-preserved t c = record {
-  term = arg_term (has_variables_below c.args.variables) c.as_slice-arg-items.result.now c.loop-arg.arg-index c.arg-item.result c.loop-arg-test.true c.loop-arg.invariant.term;
-  all = arg_slots (term_slots c.args.base) c.as_slice-arg-items.result.now c.loop-arg.arg-index c.arg-item.result c.loop-arg.slots c.union-slots.result c.term_slots.result _
+  term = arg_term (has_variables_below c.args.variables) c.as_slice-arg-items.result.now c.loop-arg.arg-index c.arg-item.result c.loop-arg-test.true
+      c.loop-arg.invariant.term;
+  all = arg_slots (term_slots c.args.base) c.as_slice-arg-items.result.now c.loop-arg.arg-index c.arg-item.result c.loop-arg.slots c.union-slots.result
+      c.term_slots.result _
       c.loop-arg-test.true c.arg-item.is c.loop-arg.invariant.all c.term_slots.ensures c.union-slots.ensures;
 }
 

@@ -8,5 +8,6 @@ returns g c =
     let meant = c.meanings_are_allowed.ensures.allowed in
     record {
       goals = λ domain sound program formed. has_entry (p domain) program formed sound;
-      verdicts = λ domain lawful sound program formed rows closed. verdict_kept (p domain) program formed sound rows (closed_describes (p domain) meant lawful sound program formed rows closed);
+      verdicts = λ domain lawful sound program formed rows closed. verdict_kept (p domain) program formed sound rows
+          (closed_describes (p domain) meant lawful sound program formed rows closed);
     }

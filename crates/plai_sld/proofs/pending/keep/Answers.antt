@@ -6,7 +6,8 @@ use Rattle.plai_sld.proofs.pending.keep.Goals as goal
 
 pub returns-then-is_bound-clause-more : goal.returns-then-is_bound-clause-more
 returns-then-is_bound-clause-more c =
-    more_again c.args.limit c.args.all.now.items c.args.pair.now (ap (λ bs. list_any (nat_eq c.args.pair.now.0) (keys bs)) (sym c.deref.ensures.value) ∙ sym c.is_bound.ensures ∙ c.if-is_bound.true)
+    more_again c.args.limit c.args.all.now.items c.args.pair.now
+    (ap (λ bs. list_any (nat_eq c.args.pair.now.0) (keys bs)) (sym c.deref.ensures.value) ∙ sym c.is_bound.ensures ∙ c.if-is_bound.true)
 
 pub returns-clause-distinct : goal.returns-clause-distinct
 returns-clause-distinct c =
@@ -16,4 +17,5 @@ returns-clause-distinct c =
 
 pub returns-clause-more : goal.returns-clause-more
 returns-clause-more c v below =
-    ap (λ bs. found bs v) (c.in_ok-push.ensures.items ∙ ap (λ t. c.args.all.now.items ++ (c.args.pair.now.0, t) ∷ []) c.in_ok-copy.ensures) ∙ found_push c.args.all.now.items c.args.pair.now v
+    ap (λ bs. found bs v) (c.in_ok-push.ensures.items ∙ ap (λ t. c.args.all.now.items ++ (c.args.pair.now.0, t) ∷ []) c.in_ok-copy.ensures)
+    ∙ found_push c.args.all.now.items c.args.pair.now v

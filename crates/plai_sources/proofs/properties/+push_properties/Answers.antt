@@ -22,7 +22,8 @@ pub returns-in_err-push_properties-in-Compound : goal.returns-in_err-push_proper
 returns-in_err-push_properties-in-Compound t c =
     let test : is_conjunction c.in-Compound.name (length c.in-Compound.args) ≡ true =
     ap (λ xs. is_conjunction c.in-Compound.name (length xs)) (sym c.as_slice.ensures.items) ∙ sym c.is_conjunction.ensures ∙ c.if-not-is_conjunction.false in
-    put_fails (property_of c.args.variables.now) c.args.props.now.items c.loop-part.props.items c.push_properties.new.props.items c.in_err-push_properties-in-Compound.field-0.0
+    put_fails (property_of c.args.variables.now) c.args.props.now.items c.loop-part.props.items c.push_properties.new.props.items
+    c.in_err-push_properties-in-Compound.field-0.0
     c.as_slice-part-items.result.now c.loop-part.part-index c.part-item.result c.args.term.now c.from_residual.result c.loop-part-test.true c.part-item.is
     (joined_at c.args.term.now c.in-Compound.name c.in-Compound.args c.as_slice-part-items.result.now c.in-Compound.is c.as_slice-part-items.ensures.items test)
     c.in_err-push_properties-in-Compound.ensures

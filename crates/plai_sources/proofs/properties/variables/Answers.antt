@@ -13,7 +13,8 @@ returns-in_err-ok_or-clause-numbers c =
 pub loop-arg-preserved : goal.loop-arg-preserved
 loop-arg-preserved c = record {
   numbers = pushed_each variable_of c.args.args.now c.loop-arg.arg-index c.arg-item.result
-      c.loop-arg.numbers.items c.push.new.self.items c.in_ok-ok_or.field-0 c.loop-arg-test.true c.arg-item.is (sym c.variable.ensures ∙ c.in_ok-ok_or.ensures.ok_part)
+      c.loop-arg.numbers.items c.push.new.self.items c.in_ok-ok_or.field-0 c.loop-arg-test.true c.arg-item.is
+      (sym c.variable.ensures ∙ c.in_ok-ok_or.ensures.ok_part)
       c.loop-arg.invariant.numbers c.in_ok-push.ensures.items;
   few = let n = c.in_ok-push.ensures.len in omega arith;
 }

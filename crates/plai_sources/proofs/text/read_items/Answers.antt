@@ -42,9 +42,12 @@ loop-reading-preserved c =
     let from = c.loop-reading.invariant.from in
     let room = c.loop-reading.invariant.room in
     record {
-      same = goes_on c.loop-reading.reading c.loop-reading.number c.as_slice.result.now c.loop-reading.lexer c.next_term.new.lexer (items_of c.args.text.now c.args.there)
-          c.add_tokens-next.result c.in_ok-reading-2.reading c.loop-reading.invariant.same whole left c.add_tokens-next.ensures.tokens c.in_ok-reading-2.ensures;
-      good = good_next c.args.there c.add_tokens-next.result c.in_ok-reading-2.reading (c.add_tokens-next.ensures.good c.args.there c.loop-reading.invariant.good) c.in_ok-reading-2.ensures;
+      same = goes_on c.loop-reading.reading c.loop-reading.number c.as_slice.result.now c.loop-reading.lexer c.next_term.new.lexer
+          (items_of c.args.text.now c.args.there)
+          c.add_tokens-next.result c.in_ok-reading-2.reading c.loop-reading.invariant.same whole left c.add_tokens-next.ensures.tokens
+          c.in_ok-reading-2.ensures;
+      good = good_next c.args.there c.add_tokens-next.result c.in_ok-reading-2.reading
+          (c.add_tokens-next.ensures.good c.args.there c.loop-reading.invariant.good) c.in_ok-reading-2.ensures;
       from = omega arith;
       room = omega arith;
     }

@@ -37,18 +37,21 @@ returns-in-Var-right-4 c = rw (compound_var _ _ _ _ _ c.in-Compound.is c.in-Var-
 pub split-requires : goal.split-requires
 split-requires c =
     alike_lengths _ _ _ _ _ _ c.in-Compound.is c.in-Compound-right.is
-    (alike_is c.in-Compound.a c.in-Compound-right.b c.in-Compound.xs c.in-Compound-right.ys _ _ _ _ c.as_slice.ensures.items c.as_slice-in-Compound-right.ensures.items c.are_alike.ensures c.if-are_alike.true)
+    (alike_is c.in-Compound.a c.in-Compound-right.b c.in-Compound.xs c.in-Compound-right.ys _ _ _ _ c.as_slice.ensures.items
+    c.as_slice-in-Compound-right.ensures.items c.are_alike.ensures c.if-are_alike.true)
 
 pub returns-then-are_alike : goal.returns-then-are_alike
 returns-then-are_alike c =
     rw (alike_split _ _ _ _ _ _ c.in-Compound.is c.in-Compound-right.is
-    (alike_is c.in-Compound.a c.in-Compound-right.b c.in-Compound.xs c.in-Compound-right.ys _ _ _ _ c.as_slice.ensures.items c.as_slice-in-Compound-right.ensures.items c.are_alike.ensures c.if-are_alike.true))
+    (alike_is c.in-Compound.a c.in-Compound-right.b c.in-Compound.xs c.in-Compound-right.ys _ _ _ _ c.as_slice.ensures.items
+    c.as_slice-in-Compound-right.ensures.items c.are_alike.ensures c.if-are_alike.true))
     c.split.ensures
 
 pub returns-in-Compound-right : goal.returns-in-Compound-right
 returns-in-Compound-right c =
     sym (others_differ _ _ _ _ _ _ c.in-Compound.is c.in-Compound-right.is
-    (alike_is c.in-Compound.a c.in-Compound-right.b c.in-Compound.xs c.in-Compound-right.ys _ _ _ _ c.as_slice.ensures.items c.as_slice-in-Compound-right.ensures.items c.are_alike.ensures c.if-are_alike.false))
+    (alike_is c.in-Compound.a c.in-Compound-right.b c.in-Compound.xs c.in-Compound-right.ys _ _ _ _ c.as_slice.ensures.items
+    c.as_slice-in-Compound-right.ensures.items c.are_alike.ensures c.if-are_alike.false))
 
 pub returns : goal.returns
 returns c = sym (compound_other _ _ _ _ c.in-Compound.is c.in-Int-right-4.is)

@@ -11,7 +11,8 @@ loop-piece-smaller c = fewer_left _ _ _ _ c.in-Some.ensures.items c.in_ok-write_
 
 pub loop-piece-preserved : goal.loop-piece-preserved
 loop-piece-preserved c =
-    writes_on _ _ _ _ c.write_piece.new.waiting.items _ _ c.in-Some.ensures.items c.in_ok-write_piece.ensures.written c.in_ok-write_piece.ensures.waiting c.loop-piece.invariant
+    writes_on _ _ _ _ c.write_piece.new.waiting.items _ _ c.in-Some.ensures.items c.in_ok-write_piece.ensures.written c.in_ok-write_piece.ensures.waiting
+    c.loop-piece.invariant
 
 pub returns : goal.returns
 returns c =

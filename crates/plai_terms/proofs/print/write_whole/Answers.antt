@@ -1,11 +1,24 @@
 use Rattle.std.proofs.Common.{rules, ap, ◌∙◌, append_assoc, codes, decimal}
 use Rattle.plai_terms.specs.Pieces.{behind_head, head_text}
-use Rattle.plai_terms.proofs.Pieces.{head_text-Var, head_text-Int, head_text-Atom, behind-Var, behind-Int, behind-Atom, none_behind, compound_behind, compound_head, written_head, holds}
+use Rattle.plai_terms.proofs.Pieces.{
+  head_text-Var,
+  head_text-Int,
+  head_text-Atom,
+  behind-Var,
+  behind-Int,
+  behind-Atom,
+  none_behind,
+  compound_behind,
+  compound_head,
+  written_head,
+  holds,
+}
 use Rattle.plai_terms.proofs.print.write_whole.Goals as goal
 
 pub returns-in-Var-clause-written : goal.returns-in-Var-clause-written
 returns-in-Var-clause-written c =
-    written_head _ _ _ _ _ _ (append_assoc c.args.out.now.items (codes "_") (decimal c.in-Var.number)) (ap head_text c.in-Var.is ∙ head_text-Var c.in-Var.number) c.write_variable.ensures
+    written_head _ _ _ _ _ _ (append_assoc c.args.out.now.items (codes "_") (decimal c.in-Var.number))
+    (ap head_text c.in-Var.is ∙ head_text-Var c.in-Var.number) c.write_variable.ensures
 
 pub returns-in-Var-clause-waiting : goal.returns-in-Var-clause-waiting
 returns-in-Var-clause-waiting c = none_behind _ _ _ (ap behind_head c.in-Var.is ∙ behind-Var c.in-Var.number)
@@ -25,7 +38,8 @@ returns-in-Atom-clause-waiting c = none_behind _ _ _ (ap behind_head c.in-Atom.i
 pub returns-in_ok-push-in-Compound-clause-written :
     goal.returns-in_ok-push-in-Compound-clause-written
 returns-in_ok-push-in-Compound-clause-written c =
-    holds _ (compound_head _ _ _ _ _ _ _ c.in-Compound.is c.as_slice-in-Compound.ensures c.in_ok-write_atom-in-Compound.ensures c.in_ok-push-in-Compound.ensures.items)
+    holds _ (compound_head _ _ _ _ _ _ _ c.in-Compound.is c.as_slice-in-Compound.ensures c.in_ok-write_atom-in-Compound.ensures
+    c.in_ok-push-in-Compound.ensures.items)
 
 pub returns-in_ok-push-in-Compound-clause-waiting :
     goal.returns-in_ok-push-in-Compound-clause-waiting

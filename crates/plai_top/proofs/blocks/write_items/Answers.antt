@@ -10,9 +10,11 @@ returns-in-Err-clause-blocks g c = λ givens before begun.
     let now = g.K.Sink.taken at.sink in
     let next = g.K.Sink.taken c.write_item.new.sink in
     let plain = g.D.Domain.plain in
-    item_stops c.args.form (plain own.domain) own.limit givens before now at.session.program c.args.items.now at.item-index c.item-item.result at.number at.are_tables c.loop-item-test.true c.item-item.is
+    item_stops c.args.form (plain own.domain) own.limit givens before now at.session.program c.args.items.now at.item-index c.item-item.result at.number
+    at.are_tables c.loop-item-test.true c.item-item.is
     next c.in-Err.stop (at.invariant.wrote givens before begun)
-    (block_for c.args.form plain at.session.domain own.domain at.session.limit own.limit at.number (judged at.session.program c.item-item.result) now next (Err c.in-Err.stop) at.invariant.domain at.invariant.limit c.in-Err.ensures.block)
+    (block_for c.args.form plain at.session.domain own.domain at.session.limit own.limit at.number (judged at.session.program c.item-item.result) now next
+    (Err c.in-Err.stop) at.invariant.domain at.invariant.limit c.in-Err.ensures.block)
 
 pub loop-item-preserved : goal.loop-item-preserved
 loop-item-preserved g c =
@@ -24,9 +26,11 @@ loop-item-preserved g c =
     record {
       wrote = λ givens before begun.
           rw c.both-are_tables.ensures
-          (item_more c.args.form (plain own.domain) own.limit givens before now at.session.program c.args.items.now at.item-index c.item-item.result at.number at.are_tables c.loop-item-test.true c.item-item.is
+          (item_more c.args.form (plain own.domain) own.limit givens before now at.session.program c.args.items.now at.item-index c.item-item.result at.number
+          at.are_tables c.loop-item-test.true c.item-item.is
           next c.in-Ok.shows_table c.write_item.new.session.program (at.invariant.wrote givens before begun)
-          (block_for c.args.form plain at.session.domain own.domain at.session.limit own.limit at.number (judged at.session.program c.item-item.result) now next (Ok c.in-Ok.shows_table) at.invariant.domain at.invariant.limit c.in-Ok.ensures.block)
+          (block_for c.args.form plain at.session.domain own.domain at.session.limit own.limit at.number (judged at.session.program c.item-item.result) now
+          next (Ok c.in-Ok.shows_table) at.invariant.domain at.invariant.limit c.in-Ok.ensures.block)
           c.in-Ok.ensures.program c.in-Ok.ensures.formed);
       domain = c.in-Ok.ensures.same.0 ∙ at.invariant.domain;
       limit = c.in-Ok.ensures.same.1 ∙ at.invariant.limit;
@@ -39,5 +43,6 @@ returns-clause-blocks g c = λ givens before begun.
     let own = c.args.session in
     let at = c.loop-item in
     rw c.status.ensures
-    (items_end c.args.form (g.D.Domain.plain own.domain) own.limit givens before (g.K.Sink.taken at.sink) at.session.program c.args.items.now at.item-index at.number at.are_tables
+    (items_end c.args.form (g.D.Domain.plain own.domain) own.limit givens before (g.K.Sink.taken at.sink) at.session.program c.args.items.now at.item-index
+    at.number at.are_tables
     (at.invariant.wrote givens before begun) c.loop-item-test.false)

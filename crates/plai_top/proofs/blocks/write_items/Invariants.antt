@@ -9,8 +9,10 @@ use Rattle.plai_top.proofs.blocks.write_items.Given as goal
 abbrev pub invariant-loop-item : goal.invariant-loop-item
 invariant-loop-item g l = record {
   wrote : (givens : List (Result ProgramView EditCause)) (before : Option (List ℕ))
-      → Wrote l.fn.form (g.D.Domain.plain l.fn.session.domain) l.fn.session.limit givens before (g.K.Sink.taken l.fn.sink) (behind l.fn.session.program l.fn.items) 1 l.fn.is_table
-      → Wrote l.fn.form (g.D.Domain.plain l.fn.session.domain) l.fn.session.limit givens before (g.K.Sink.taken l.sink) (behind l.session.program (drop l.item-index l.items)) l.number l.are_tables;
+      → Wrote l.fn.form (g.D.Domain.plain l.fn.session.domain) l.fn.session.limit givens before (g.K.Sink.taken l.fn.sink)
+      (behind l.fn.session.program l.fn.items) 1 l.fn.is_table
+      → Wrote l.fn.form (g.D.Domain.plain l.fn.session.domain) l.fn.session.limit givens before (g.K.Sink.taken l.sink)
+      (behind l.session.program (drop l.item-index l.items)) l.number l.are_tables;
   domain : l.session.domain ≡ l.fn.session.domain;
   limit : l.session.limit ≡ l.fn.session.limit;
   count : l.number ≡ l.item-index + 1;

@@ -21,12 +21,14 @@ returns-in-Ok-Make-clause-early g c =
 pub returns-in-Ok-Make-clause-words : goal.returns-in-Ok-Make-clause-words
 returns-in-Ok-Make-clause-words g c =
     let own = c.in-Ok-Make in
-    made_keeps_words (texts c.args.words.now) own.settings own.count (subst (IsCommandOf (texts c.args.words.now)) own.field-0-is own.ensures.command) _ c.over_made.result
+    made_keeps_words (texts c.args.words.now) own.settings own.count (subst (IsCommandOf (texts c.args.words.now)) own.field-0-is own.ensures.command) _
+    c.over_made.result
 
 pub returns-in-Err-clause-outcome : goal.returns-in-Err-clause-outcome
 returns-in-Err-clause-outcome g c =
     let told = g.B.Library.files c.args.library.now in
-    stop_outcome (texts c.args.words.now) told (g.S.Source.left c.args.script.now) c.in-Err.stop (words_decide (texts c.args.words.now) told c.in-Err.stop c.in-Err.ensures.stop)
+    stop_outcome (texts c.args.words.now) told (g.S.Source.left c.args.script.now) c.in-Err.stop
+    (words_decide (texts c.args.words.now) told c.in-Err.stop c.in-Err.ensures.stop)
 
 pub returns-in-Err-clause-early : goal.returns-in-Err-clause-early
 returns-in-Err-clause-early g c =

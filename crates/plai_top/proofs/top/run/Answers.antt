@@ -13,23 +13,27 @@ use Rattle.plai_top.proofs.top.run.Goals as goal
 pub returns-in-Ok-carry_out-clause-whole : goal.returns-in-Ok-carry_out-clause-whole
 returns-in-Ok-carry_out-clause-whole g c =
     plan_whole (texts c.args.words.now) (g.K.Sink.taken c.args.sink.now) (g.K.Sink.taken c.carry_out.new.sink) c.in-Ok.plan
-    (g.B.Library.files c.args.library.now) (g.S.Source.left c.args.script.now) c.in-Ok-carry_out.status c.in-Ok.ensures.outcome c.in-Ok-carry_out.ensures.written
+    (g.B.Library.files c.args.library.now) (g.S.Source.left c.args.script.now) c.in-Ok-carry_out.status c.in-Ok.ensures.outcome
+    c.in-Ok-carry_out.ensures.written
 
 pub returns-in-Ok-carry_out-clause-every : goal.returns-in-Ok-carry_out-clause-every
 returns-in-Ok-carry_out-clause-every g c =
     plan_every (texts c.args.words.now) (g.K.Sink.taken c.args.sink.now) (g.K.Sink.taken c.carry_out.new.sink) c.in-Ok.plan c.outcome_is_one.ensures
-    (g.B.Library.files c.args.library.now) (g.S.Source.left c.args.script.now) c.in-Ok-carry_out.status c.in-Ok.ensures.outcome c.in-Ok-carry_out.ensures.written
+    (g.B.Library.files c.args.library.now) (g.S.Source.left c.args.script.now) c.in-Ok-carry_out.status c.in-Ok.ensures.outcome
+    c.in-Ok-carry_out.ensures.written
 
 pub returns-in-Err-carry_out-clause-every : goal.returns-in-Err-carry_out-clause-every
 returns-in-Err-carry_out-clause-every g c =
     rw c.status.ensures
     (cut_every (texts c.args.words.now) (g.K.Sink.taken c.args.sink.now) (g.K.Sink.taken c.carry_out.new.sink) c.in-Ok.plan c.outcome_is_one.ensures
-    (g.B.Library.files c.args.library.now) (g.S.Source.left c.args.script.now) c.in-Err-carry_out.stop c.in-Ok.ensures.outcome c.in-Ok.ensures.fit c.in-Err-carry_out.ensures.written)
+    (g.B.Library.files c.args.library.now) (g.S.Source.left c.args.script.now) c.in-Err-carry_out.stop c.in-Ok.ensures.outcome c.in-Ok.ensures.fit
+    c.in-Err-carry_out.ensures.written)
 
 pub returns-in-Ok-carry_out-clause-described : goal.returns-in-Ok-carry_out-clause-described
 returns-in-Ok-carry_out-clause-described g c =
     plan_promised c.printed_rows_describe_runs.ensures (texts c.args.words.now) (g.K.Sink.taken c.args.sink.now) (g.K.Sink.taken c.carry_out.new.sink)
-    (g.B.Library.files c.args.library.now) (g.S.Source.left c.args.script.now) c.in-Ok.plan c.in-Ok-carry_out.status c.in-Ok.ensures.outcome c.in-Ok.ensures.fit c.in-Ok-carry_out.ensures.written
+    (g.B.Library.files c.args.library.now) (g.S.Source.left c.args.script.now) c.in-Ok.plan c.in-Ok-carry_out.status c.in-Ok.ensures.outcome
+    c.in-Ok.ensures.fit c.in-Ok-carry_out.ensures.written
 
 pub returns-in-Ok-carry_out-clause-made : goal.returns-in-Ok-carry_out-clause-made
 returns-in-Ok-carry_out-clause-made g c =
@@ -81,7 +85,8 @@ returns-in-Err-clause-made_status g c = λ asked.
 
 pub returns-in-Ok-carry_out-clause-part : goal.returns-in-Ok-carry_out-clause-part
 returns-in-Ok-carry_out-clause-part g c =
-    plan_part (texts c.args.words.now) (g.B.Library.files c.args.library.now) (g.S.Source.left c.args.script.now) (g.K.Sink.taken c.args.sink.now) (g.K.Sink.taken c.carry_out.new.sink)
+    plan_part (texts c.args.words.now) (g.B.Library.files c.args.library.now) (g.S.Source.left c.args.script.now) (g.K.Sink.taken c.args.sink.now)
+    (g.K.Sink.taken c.carry_out.new.sink)
     c.in-Ok.plan c.in-Ok-carry_out.status c.in-Ok-carry_out.ensures.status
 
 pub returns-in-Err-carry_out-clause-part : goal.returns-in-Err-carry_out-clause-part
@@ -91,7 +96,8 @@ returns-in-Err-carry_out-clause-part g c =
     let before = g.K.Sink.taken c.args.sink.now in
     let after = g.K.Sink.taken c.carry_out.new.sink in
     subst (λ n. IfBothTold told left (λ files text. EndsWithin (texts c.args.words.now) files text n before after)) (sym c.status.ensures)
-    (cut_part (texts c.args.words.now) before after c.in-Ok.plan c.in-Err-carry_out.stop c.in-Ok.ensures.fit c.in-Err-carry_out.ensures.written told left c.in-Ok.ensures.outcome)
+    (cut_part (texts c.args.words.now) before after c.in-Ok.plan c.in-Err-carry_out.stop c.in-Ok.ensures.fit c.in-Err-carry_out.ensures.written told left
+    c.in-Ok.ensures.outcome)
 
 pub returns-in-Err-clause-part : goal.returns-in-Err-clause-part
 returns-in-Err-clause-part g c =
@@ -111,7 +117,8 @@ returns-in-Err-carry_out-clause-made_part g c = λ asked files text.
     let before = g.K.Sink.taken c.args.sink.now in
     let after = g.K.Sink.taken c.carry_out.new.sink in
     subst (λ n. EndsWithin (texts c.args.words.now) files text n before after) (sym c.status.ensures)
-    (cut_made_part (texts c.args.words.now) before after c.in-Ok.plan c.in-Err-carry_out.stop c.in-Ok.ensures.fit c.in-Err-carry_out.ensures.written c.in-Ok.ensures.made asked files text)
+    (cut_made_part (texts c.args.words.now) before after c.in-Ok.plan c.in-Err-carry_out.stop c.in-Ok.ensures.fit c.in-Err-carry_out.ensures.written
+    c.in-Ok.ensures.made asked files text)
 
 pub returns-in-Err-clause-made_part : goal.returns-in-Err-clause-made_part
 returns-in-Err-clause-made_part g c = λ asked files text.

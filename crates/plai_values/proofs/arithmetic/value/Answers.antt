@@ -8,7 +8,8 @@ use Rattle.plai_values.proofs.arithmetic.value.Goals as goal
 
 pub loop-node-preserved : goal.loop-node-preserved
 loop-node-preserved c =
-    let n = back_pop value_of c.args.term.now c.loop-node.nodes.items c.pop.new.self.items c.in-Some.node (reverse c.loop-node.values.items) c.in-Some.ensures.items c.loop-node.invariant in
+    let n = back_pop value_of c.args.term.now c.loop-node.nodes.items c.pop.new.self.items c.in-Some.node (reverse c.loop-node.values.items)
+    c.in-Some.ensures.items c.loop-node.invariant in
     subst (λ d. IsBack value_of c.args.term.now (referred c.pop.new.self.items) d) (sym (c.in_ok-put_value.ensures n.others n.split)) n.next
 
 pub returns : goal.returns

@@ -3,7 +3,8 @@ use Rattle.plai_values.proofs.integer.times_power_of_two.Goals as goal
 use Rattle.plai_values.proofs.Powers.{first_not, both}
 
 pub returns-in_err-checked_mul : goal.returns-in_err-checked_mul
-returns-in_err-checked_mul c = c.from_residual.ensures ∙ first_not c.args.value c.args.count c.ranges.value c.pow.result c.pow.result c.pow.ensures (search rules) c.in_err-checked_mul.ensures
+returns-in_err-checked_mul c = c.from_residual.ensures
+    ∙ first_not c.args.value c.args.count c.ranges.value c.pow.result c.pow.result c.pow.ensures (search rules) c.in_err-checked_mul.ensures
 
 pub returns : goal.returns
 returns c =

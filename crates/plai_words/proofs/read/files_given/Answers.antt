@@ -7,7 +7,8 @@ use Rattle.plai_words.proofs.read.files_given.Goals as goal
 
 pub returns-in-Some-clause-ok : goal.returns-in-Some-clause-ok
 returns-in-Some-clause-ok c =
-    IfOk-weaker c.copies.result _ _ (λ v h. h ∙ ap (λ o. unwrap_or o []) (c.in-Some.ensures ∙ raw_values-rows (found_of c.args.matches.now) files_id)) c.copies.ensures.ok
+    IfOk-weaker c.copies.result _ _ (λ v h. h ∙ ap (λ o. unwrap_or o []) (c.in-Some.ensures ∙ raw_values-rows (found_of c.args.matches.now) files_id))
+    c.copies.ensures.ok
 
 pub returns-in-None-clause-ok : goal.returns-in-None-clause-ok
 returns-in-None-clause-ok c =

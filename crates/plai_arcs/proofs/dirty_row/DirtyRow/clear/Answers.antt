@@ -6,7 +6,8 @@ use Rattle.plai_arcs.proofs.dirty_row.DirtyRow.clear.Goals as goal
 pub first_marked-self-requires : goal.first_marked-self-requires
 first_marked-self-requires c k h =
     let within : c.args.clause < length c.args.self.now.flags.items = omega arith in
-    ap (λ fs. flag_at fs k) c.deref.ensures.value ∙ unmarked_below c.args.self.now.flags.items c.args.self.now.first c.args.clause c.args.self.now.below within k h
+    ap (λ fs. flag_at fs k) c.deref.ensures.value
+    ∙ unmarked_below c.args.self.now.flags.items c.args.self.now.first c.args.clause c.args.self.now.below within k h
 
 pub returns-then-clause-len : goal.returns-then-clause-len
 returns-then-clause-len c k =

@@ -7,7 +7,8 @@ pub returns-in-None-clause-function : goal.returns-in-None-clause-function
 returns-in-None-clause-function c = ok_then _ _ (λ b f. empty_is c.args.all b c.in-None.ensures f) c.constant.result c.constant.ensures
 
 pub returns-in-None-clause-meaning : goal.returns-in-None-clause-meaning
-returns-in-None-clause-meaning c = ok_then _ _ (λ b f. all_meaning c.args.all b (empty_is c.args.all b c.in-None.ensures f)) c.constant.result c.constant.ensures
+returns-in-None-clause-meaning c = ok_then _ _ (λ b f. all_meaning c.args.all b (empty_is c.args.all b c.in-None.ensures f)) c.constant.result
+    c.constant.ensures
 
 pub returns-in_ok-nodes-in-Some-clause-meaning : goal.returns-in_ok-nodes-in-Some-clause-meaning
 returns-in_ok-nodes-in-Some-clause-meaning c = all_meaning c.args.all c.in_ok-nodes-in-Some.nodes.items c.in_ok-nodes-in-Some.ensures

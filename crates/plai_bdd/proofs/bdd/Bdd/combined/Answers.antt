@@ -16,18 +16,23 @@ pub overflow_sub-pair-2 : goal.overflow_sub-pair-2
 overflow_sub-pair-2 c = let h = some_of _ _ c.other.invariant c.as_slice-right.ensures.value in omega arith
 
 pub combine-requires-clause-left_is : goal.combine-requires-clause-left_is
-combine-requires-clause-left_is c = source_of c.args.change c.self.inside.nodes.items c.args.self.now c.as_slice-left.result.now c.self.invariant c.self.view_is c.as_slice-left.ensures.value c.requires.left
+combine-requires-clause-left_is c = source_of c.args.change c.self.inside.nodes.items c.args.self.now c.as_slice-left.result.now c.self.invariant
+    c.self.view_is c.as_slice-left.ensures.value c.requires.left
 
 pub combine-requires-clause-right_is : goal.combine-requires-clause-right_is
-combine-requires-clause-right_is c = source_of c.args.change c.other.inside.nodes.items c.args.other.now c.as_slice-right.result.now c.other.invariant c.other.view_is c.as_slice-right.ensures.value c.requires.right
+combine-requires-clause-right_is c = source_of c.args.change c.other.inside.nodes.items c.args.other.now c.as_slice-right.result.now c.other.invariant
+    c.other.view_is c.as_slice-right.ensures.value c.requires.right
 
 given : (connective : Connective) (change : Change) (self other self_inside other_inside left right start table slice nodes : List Node) (root : ℕ) → start ≡ []
-    → Adds start root table (least_of change left right (length left - 1) (length right - 1)) (function_of connective change left right (length left - 1) (length right - 1))
+    → Adds start root table (least_of change left right (length left - 1) (length right - 1))
+    (function_of connective change left right (length left - 1) (length right - 1))
     → nodes ≡ slice → slice ≡ table → left ≡ self_inside → self_inside ≡ self → right ≡ other_inside → other_inside ≡ other
     → IsFunction nodes (combined connective change (root_of self) (root_of other))
 given connective change self other self_inside other_inside left right start table slice nodes root e added f g l1 l2 r1 r2 =
-    let from : Adds [] root table (least_of change left right (length left - 1) (length right - 1)) (function_of connective change left right (length left - 1) (length right - 1)) =
-    subst (λ l. Adds l root table (least_of change left right (length left - 1) (length right - 1)) (function_of connective change left right (length left - 1) (length right - 1))) e added in
+    let from : Adds [] root table (least_of change left right (length left - 1) (length right - 1))
+    (function_of connective change left right (length left - 1) (length right - 1)) =
+    subst (λ l. Adds l root table (least_of change left right (length left - 1) (length right - 1))
+    (function_of connective change left right (length left - 1) (length right - 1))) e added in
     let done = combined_is connective change left right table (length left - 1) (length right - 1) root from (omega arith) (omega arith) in
     let P : List Node → Type 0 = λ l. IsFunction l (combined connective change (root_of left) (root_of right)) in
     let Q : List Node → Type 0 = λ l. IsFunction nodes (combined connective change (root_of l) (root_of right)) in
@@ -36,10 +41,14 @@ given connective change self other self_inside other_inside left right start tab
 
 pub invariant_of-result : goal.invariant_of-result
 invariant_of-result c =
-    (given c.args.connective c.args.change c.args.self.now c.args.other.now _ _ c.as_slice-left.result.now c.as_slice-right.result.now (keys c.in_ok-table.table) _ _ _ c.in_ok-_root._root (search rules)
-    c.in_ok-_root.ensures.added c.in_ok-nodes.ensures.items c.as_slice.ensures.keys c.as_slice-left.ensures.value c.self.view_is c.as_slice-right.ensures.value c.other.view_is).canonical
+    (given c.args.connective c.args.change c.args.self.now c.args.other.now _ _ c.as_slice-left.result.now c.as_slice-right.result.now
+    (keys c.in_ok-table.table) _ _ _ c.in_ok-_root._root (search rules)
+    c.in_ok-_root.ensures.added c.in_ok-nodes.ensures.items c.as_slice.ensures.keys c.as_slice-left.ensures.value c.self.view_is
+    c.as_slice-right.ensures.value c.other.view_is).canonical
 
 pub returns : goal.returns
 returns c =
-    given c.args.connective c.args.change c.args.self.now c.args.other.now _ _ c.as_slice-left.result.now c.as_slice-right.result.now (keys c.in_ok-table.table) _ _ _ c.in_ok-_root._root (search rules)
-    c.in_ok-_root.ensures.added c.in_ok-nodes.ensures.items c.as_slice.ensures.keys c.as_slice-left.ensures.value c.self.view_is c.as_slice-right.ensures.value c.other.view_is
+    given c.args.connective c.args.change c.args.self.now c.args.other.now _ _ c.as_slice-left.result.now c.as_slice-right.result.now
+    (keys c.in_ok-table.table) _ _ _ c.in_ok-_root._root (search rules)
+    c.in_ok-_root.ensures.added c.in_ok-nodes.ensures.items c.as_slice.ensures.keys c.as_slice-left.ensures.value c.self.view_is
+    c.as_slice-right.ensures.value c.other.view_is

@@ -14,8 +14,10 @@ returns-clause-function c = left_none c.args.slots c.loop-k.k c.args.self.now c.
 
 pub returns-clause-meaning : goal.returns-clause-meaning
 returns-clause-meaning c =
-    some_meaning c.args.slots (holds c.args.self.now) c.loop-k.rest (left_none c.args.slots c.loop-k.k c.args.self.now c.loop-k.rest (omega arith) c.loop-k.invariant)
+    some_meaning c.args.slots (holds c.args.self.now) c.loop-k.rest
+    (left_none c.args.slots c.loop-k.k c.args.self.now c.loop-k.rest (omega arith) c.loop-k.invariant)
 
 pub returns-clause-free : goal.returns-clause-free
 returns-clause-free c =
-    some_free c.args.slots (holds c.args.self.now) c.loop-k.rest (left_none c.args.slots c.loop-k.k c.args.self.now c.loop-k.rest (omega arith) c.loop-k.invariant)
+    some_free c.args.slots (holds c.args.self.now) c.loop-k.rest
+    (left_none c.args.slots c.loop-k.k c.args.self.now c.loop-k.rest (omega arith) c.loop-k.invariant)

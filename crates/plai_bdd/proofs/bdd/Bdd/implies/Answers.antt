@@ -19,9 +19,12 @@ implies_at-requires-clause-right_is c = kept_source _ _ _ c.other.invariant c.ot
 
 pub returns-clause-models : goal.returns-clause-models
 returns-clause-models c bound over_left over_right =
-    implies_models c.args.self.now c.args.other.now bound (subst IsCanonical c.self.view_is c.self.invariant) (subst IsCanonical c.other.view_is c.other.invariant) over_left over_right c.implies_at.result
-    (roots_decide c.implies_at.result _ _ c.args.self.now c.args.other.now (c.as_slice-left.ensures.value ∙ c.self.view_is) (c.as_slice-right.ensures.value ∙ c.other.view_is) c.implies_at.ensures)
+    implies_models c.args.self.now c.args.other.now bound (subst IsCanonical c.self.view_is c.self.invariant)
+    (subst IsCanonical c.other.view_is c.other.invariant) over_left over_right c.implies_at.result
+    (roots_decide c.implies_at.result _ _ c.args.self.now c.args.other.now (c.as_slice-left.ensures.value ∙ c.self.view_is)
+    (c.as_slice-right.ensures.value ∙ c.other.view_is) c.implies_at.ensures)
 
 pub returns-clause-function : goal.returns-clause-function
 returns-clause-function c =
-    roots_decide c.implies_at.result _ _ c.args.self.now c.args.other.now (c.as_slice-left.ensures.value ∙ c.self.view_is) (c.as_slice-right.ensures.value ∙ c.other.view_is) c.implies_at.ensures
+    roots_decide c.implies_at.result _ _ c.args.self.now c.args.other.now (c.as_slice-left.ensures.value ∙ c.self.view_is)
+    (c.as_slice-right.ensures.value ∙ c.other.view_is) c.implies_at.ensures

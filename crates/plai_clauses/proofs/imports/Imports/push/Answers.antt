@@ -9,5 +9,6 @@ invariant_of-self-then-is_ok-2 c = λ name arity.
     let had = rw is at c.self.invariant in
     let said = on_ok_at c.note.result (sym c.is_ok.ensures.value ∙ c.if-is_ok.true) c.note.ensures name in
     rw c.in_ok-push.ensures.items
-    (found_behind c.self.inside.list.items (exporters_in c.in-Some.index.entries name) (exporters_in c.note.new.index.entries name) (c.args.name, c.args.arity, c.args.module) name arity
+    (found_behind c.self.inside.list.items (exporters_in c.in-Some.index.entries name) (exporters_in c.note.new.index.entries name)
+    (c.args.name, c.args.arity, c.args.module) name arity
     (had name arity) (rw (c.in_ok-key.ensures, c.in_ok-from.ensures) at said))

@@ -18,4 +18,5 @@ remove-requires c =
     omega (arith, c.self.inside.checks.ok.0)
 
 pub invariant_of-self : goal.invariant_of-self
-invariant_of-self c = fewer_checks c.self.inside.modules.items (definitions_in c.self.inside.definitions.entries) c.self.inside.entries.items c.self.inside.checks.items c.self.invariant _ c.args.module.now c.args.number (search rules)
+invariant_of-self c = fewer_checks c.self.inside.modules.items (definitions_in c.self.inside.definitions.entries) c.self.inside.entries.items
+    c.self.inside.checks.items c.self.invariant _ c.args.module.now c.args.number (search rules)

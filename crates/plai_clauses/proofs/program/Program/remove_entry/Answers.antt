@@ -14,8 +14,10 @@ remove-requires c =
     place_within c.args.module.now (homes_of_entries c.self.inside.entries.items) c.args.number c.requires.some there in
     let p : c.place_of-place.result ≡ place_of c.args.module.now c.args.number (homes_of_entries c.self.inside.entries.items) =
     c.place_of-place.ensures.place ∙ ap (λ es. place_of c.args.module.now c.args.number (homes_of_entries es)) c.deref.ensures.value in
-    let l : length (homes_of_entries c.self.inside.entries.items) ≡ length c.self.inside.entries.items = length-map c.self.inside.entries.items (λ e. e.module) in
+    let l : length (homes_of_entries c.self.inside.entries.items) ≡ length c.self.inside.entries.items =
+    length-map c.self.inside.entries.items (λ e. e.module) in
     omega (arith, c.self.inside.entries.ok.0)
 
 pub invariant_of-self : goal.invariant_of-self
-invariant_of-self c = fewer_entries c.self.inside.modules.items (definitions_in c.self.inside.definitions.entries) c.self.inside.entries.items c.self.inside.checks.items c.self.invariant _ c.args.module.now c.args.number (search rules)
+invariant_of-self c = fewer_entries c.self.inside.modules.items (definitions_in c.self.inside.definitions.entries) c.self.inside.entries.items
+    c.self.inside.checks.items c.self.invariant _ c.args.module.now c.args.number (search rules)

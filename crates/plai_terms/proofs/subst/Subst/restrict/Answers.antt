@@ -19,12 +19,14 @@ pub loop-pair-preserved : goal.loop-pair-preserved
 loop-pair-preserved c =
     let same : c.args.self.now ≡ c.as_slice-pair-items.result.now = cc in
     kept_more c.args.variables.now c.as_slice-pair-items.result.now c.loop-pair.kept.items c.keep.new.kept.items c.loop-pair.pair-index c.pair-item.result
-    c.loop-pair-test.true c.pair-item.is (c.loop-pair.invariant ∙ ap (λ s. restricted_to c.args.variables.now (take c.loop-pair.pair-index s)) same) c.in_ok-keep.ensures
+    c.loop-pair-test.true c.pair-item.is (c.loop-pair.invariant ∙ ap (λ s. restricted_to c.args.variables.now (take c.loop-pair.pair-index s)) same)
+    c.in_ok-keep.ensures
     ∙ ap (λ s. restricted_to c.args.variables.now (take (c.loop-pair.pair-index + 1) s)) (sym same)
 
 pub new-requires : goal.new-requires
 new-requires c =
     let same : c.as_slice-pair-items.result.now ≡ c.self.inside.pairs.items = cc in
-    let whole : take c.loop-pair.pair-index c.args.self.now ≡ c.self.inside.pairs.items = ap (take c.loop-pair.pair-index) (cc) ∙ take_all c.loop-pair.pair-index c.as_slice-pair-items.result.now c.loop-pair-test.false ∙ same in
+    let whole : take c.loop-pair.pair-index c.args.self.now ≡ c.self.inside.pairs.items =
+    ap (take c.loop-pair.pair-index) (cc) ∙ take_all c.loop-pair.pair-index c.as_slice-pair-items.result.now c.loop-pair-test.false ∙ same in
     subst (λ ps. IsDistinct nat_eq (map (λ p. p.0) ps)) (sym (c.loop-pair.invariant ∙ ap (restricted_to c.args.variables.now) whole))
     (IsDistinct-keys_filter nat_eq (λ p. list_any (λ v. v == p.0) c.args.variables.now) c.self.inside.pairs.items c.self.invariant)
