@@ -13,7 +13,7 @@ ghost use Rattle.plai_domain.specs.Printed.{IsPrinted};
 use crate::action::Action;
 use crate::dom_fail::DomFail;
 use plai_base::Steps;
-use plai_terms::{Abs, Prop, Term};
+use plai_terms::{Abs, Prop, Term, print_abs};
 use std::alloc::{AllocError, Global};
 use std::hash::Hash;
 use std::sync::ledger::Ledger;
@@ -165,7 +165,11 @@ pub trait Domain: Drop {
     fn print(&self, alloc: Global, a: &Self::Value, out: &mut Vec<u8>) -> Result<(), AllocError>
         requires { IsSmallValue (plain self.now) (value_of a.now) }
         ensures ok { OnOk result (out.new.items ≡ out.old.items ++ pattern_text (value_of a.now)) }
-        ensures err { OnErr result (out.new.items ≡ out.old.items) };
+        ensures err { OnErr result (out.new.items ≡ out.old.items) }
+    {
+        let pattern = self.to_abs(alloc, a)?;
+        print_abs(alloc, &pattern, out)
+    }
 
     /// `==` is equality of what contracts see.
     ghost equal: { (a b : Self.Value) → (Self.Value.eq a b ≡ true) ↔ (value_of a ≡ value_of b) };

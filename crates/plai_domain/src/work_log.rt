@@ -1,9 +1,6 @@
 ghost use Rattle.std.specs.Prelude.{◌≡◌, [], Some, true};
 
-use crate::domain::Domain;
-use crate::key::Key;
 use crate::work::{Work, WorkEntry};
-use plai_terms::RowName;
 use std::alloc::{AllocError, Global};
 use std::marker::Model;
 
@@ -47,25 +44,8 @@ impl WorkLog {
 impl Work for WorkLog {
     ghost entries = { λ log. Some log };
 
-    ghost takes_memory = { λ _. true };
-
     fn note(&mut self, alloc: Global, entry: &WorkEntry) -> Result<(), AllocError> {
         self.kept.push(entry.copy(alloc)?)?;
-        Ok(())
-    }
-
-    fn note_evaluated<D: Domain>(
-        &mut self,
-        alloc: Global,
-        domain: &D,
-        name: &Key<D::Value>,
-        clause: u64,
-    ) -> Result<(), AllocError> {
-        let row = RowName {
-            pred: name.pred.copy(alloc)?,
-            call: domain.to_abs(alloc, &name.call)?,
-        };
-        self.kept.push(WorkEntry::Evaluated(row, clause))?;
         Ok(())
     }
 }

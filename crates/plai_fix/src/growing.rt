@@ -26,7 +26,6 @@ use crate::calling::callers_of;
 use crate::change::Change;
 use crate::joining::growth;
 use crate::marking::mark_pairs;
-use crate::notes::note_grew;
 use crate::queue::push_rows;
 use crate::task::Task;
 use plai_arcs::Arcs;
@@ -58,7 +57,7 @@ pub(crate) fn grow_row<D: Domain, W: Work>(
     let callers = callers_of(task.alloc, arcs, row)?;
     mark_pairs(task.alloc, arcs, &callers)?;
     push_rows(queue, &callers)?;
-    note_grew(task.alloc, task.domain, table.row(row).name, &answer, work)?;
+    work.note_grew(task.alloc, task.domain, table.row(row).name, &answer)?;
     table.raise(row, answer);
     Ok(())
 }

@@ -14,7 +14,6 @@ mod joining;
 mod laws;
 mod looking;
 mod marking;
-mod notes;
 mod pair_work;
 mod placing;
 mod present;

@@ -25,7 +25,6 @@ ghost use Rattle.plai_fix.specs.Solving.{Places, AreOfRows, IsPlacing};
 ghost use Rattle.plai_fix.specs.Moves.{Adds};
 
 use crate::marking::mark_clauses;
-use crate::notes::note_made;
 use crate::queue::push_row;
 use crate::task::Task;
 use plai_arcs::Arcs;
@@ -56,7 +55,7 @@ fn begin_row<D: Domain, W: Work>(
     let last = task.program.clauses_of(&name.pred).len() as u64;
     mark_clauses(task.alloc, arcs, row, last)?;
     push_row(queue, row)?;
-    note_made(task.alloc, task.domain, name, work)
+    work.note_made(task.alloc, task.domain, name)
 }
 
 /// The row of the name; where it has none, one is made and noted, unless the limit of live rows is met: then there is none.

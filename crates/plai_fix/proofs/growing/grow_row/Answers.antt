@@ -23,7 +23,7 @@ returns-clause-answers g c =
 
 pub returns-clause-noted : goal.returns-clause-noted
 returns-clause-noted g c = λ name e.
-    subst (λ (z : Key g.row.D-Value.Denot). g.W.Work.entries c.note_grew.new.work ≡ noted
+    subst (λ (z : Key g.row.D-Value.Denot). g.W.Work.entries c.note_grew.new.self ≡ noted
     (entries.Grew (name_of g.D.Domain.value_of z) (g.D.Domain.value_of c.args.answer)) (g.W.Work.entries c.args.work.now))
     (one_name c.args.table.now.rows c.args.row _ name c.row.ensures e) c.in_ok-note_grew.ensures.ok
 
