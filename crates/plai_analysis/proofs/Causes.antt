@@ -59,7 +59,7 @@ use Rattle.plai_theory.specs.Claims.{IsStoppedLog}
 use Rattle.plai_theory.specs.Rounds.{IsMade}
 use Rattle.plai_theory.proofs.Rows.{find_name, in_item}
 use Rattle.plai_theory.proofs.Options.{by_test}
-use Rattle.plai_theory.proofs.Count.{own_step}
+use Rattle.plai_theory.proofs.WithinLimit.{own_step}
 use Rattle.plai_terms.specs.declared.abs.Abs.{Abs}
 use Rattle.plai_terms.specs.declared.pred_key.PredKey.{PredKey}
 use Rattle.plai_terms.specs.declared.row_name.RowName.{RowName}

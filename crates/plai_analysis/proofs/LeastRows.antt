@@ -41,7 +41,8 @@ use Rattle.plai_theory.specs.Domain.{Name}
 use Rattle.plai_theory.specs.Domain as theory
 use Rattle.plai_theory.specs.LeastTable.{Row, IsOrdered}
 use Rattle.plai_theory.specs.LegalWork.{WorkRow, find, present_source, no_work, after_all, IsNeeded}
-use Rattle.plai_theory.proofs.Logs.{Inv, log_keeps, settle, empty, legal_log_least}
+use Rattle.plai_theory.proofs.Logs.{log_keeps, empty, legal_log_least}
+use Rattle.plai_theory.proofs.Invariant.{Inv, settle}
 use Rattle.plai_theory.proofs.Count.{end_within}
 use Rattle.plai_theory.proofs.Rounds.{map_in}
 use Rattle.plai_terms.specs.declared.abs.Abs.{Abs}

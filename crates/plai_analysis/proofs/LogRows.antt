@@ -34,7 +34,7 @@ use Rattle.plai_theory.proofs.Options.{by_test}
 use Rattle.plai_theory.proofs.Eval.{same_answer, same_called}
 use Rattle.plai_theory.proofs.Rounds.{map_in}
 use Rattle.plai_theory.proofs.Rows.{find_name, item_in, in_item}
-use Rattle.plai_theory.proofs.Count.{own_step}
+use Rattle.plai_theory.proofs.WithinLimit.{own_step}
 use Rattle.plai_fix.proofs.Places.{found_at}
 
 -- a row under work as a row

@@ -45,7 +45,7 @@ use Rattle.plai_theory.specs.LegalWork.{
   after_all,
 }
 use Rattle.plai_theory.specs.Limits.{Limits, IsOverAt}
-use Rattle.plai_theory.proofs.Logs.{Inv}
+use Rattle.plai_theory.proofs.Invariant.{Inv}
 use Rattle.plai_theory.proofs.Near.{answer_low}
 use Rattle.plai_theory.proofs.Rows.{present_map, item_in}
 use Rattle.plai_theory.proofs.Stages.{left_at}

@@ -28,7 +28,7 @@ use Rattle.plai_theory.specs.LegalWork.{
 use Rattle.plai_theory.specs.Edits.{IsKept, IsOpening, grown_names, grown_back, IsCaused}
 use Rattle.plai_theory.proofs.Options.{by_test}
 use Rattle.plai_theory.proofs.Rows.{find_map, find_push, by_map}
-use Rattle.plai_theory.proofs.Logs.{by_push}
+use Rattle.plai_theory.proofs.Invariant.{by_push}
 
 -- a kept row stays, and its dirty clauses have a cause
 pub record IsTraced (d : Domain) (old : Program d) (new : Program d) (table : List (Row d)) (grew : List (NameOf d)) (rows : List (WorkRow d)) : Type 0 where

@@ -66,7 +66,9 @@ use Rattle.plai_theory.proofs.Same.{table_value}
 use Rattle.plai_theory.proofs.Rounds.{below_at}
 use Rattle.plai_theory.proofs.Edits.{old_item, opened_agree}
 use Rattle.plai_theory.proofs.Rows.{item_in, in_item, by_map, find_name}
-use Rattle.plai_theory.proofs.Logs.{Inv, step, by_push, present_push, present_kept, grow_agrees, need_met, reached_needed, end_settled, done, log_keeps}
+use Rattle.plai_theory.proofs.Logs.{step, need_met, reached_needed, end_settled, done, log_keeps}
+use Rattle.plai_theory.proofs.Growth.{grow_agrees}
+use Rattle.plai_theory.proofs.Invariant.{Inv, by_push, present_push, present_kept}
 
 has_up_to : {A : Type 0} (R : A → A → Type 0) (P Q : A → Type 0) (o u : Option A) → UpTo R o u → ((x y : A) → o ≡ Some x → u ≡ Some y → R x y → P x → Q y)
     → HasSome P o → HasSome Q u
