@@ -1,5 +1,6 @@
-use crate::{AddFail, Table};
+// A table against a plain list of rows, over thousands of random calls.
 use plai_domain::Key;
+use plai_table::{AddFail, Table};
 use plai_terms::{Name, PredKey};
 use std::alloc::{AllocError, Global};
 use std::test::Fail;
