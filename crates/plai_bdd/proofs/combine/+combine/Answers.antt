@@ -3,12 +3,10 @@ use Rattle.plai_bdd.specs.declared.change.Placed.TheVariants.{Fixed}
 use Rattle.plai_bdd.proofs.Adding.{Adds-there}
 use Rattle.plai_bdd.proofs.Tables.{put_grown}
 use Rattle.plai_bdd.proofs.Steps.{
-  memo_noted,
   ok_then,
   leaves,
   decided,
   placed_ok,
-  memo_ok,
   left_split,
   right_split,
   high_falls,
@@ -18,6 +16,7 @@ use Rattle.plai_bdd.proofs.Steps.{
   step_parted,
   join_grown,
 }
+use Rattle.plai_bdd.proofs.Noted.{memo_noted, memo_ok}
 use Rattle.plai_bdd.proofs.combine.+combine.Goals as goal
 
 pub combine-returns-then-is_decided-clause-added : goal.combine-returns-then-is_decided-clause-added
