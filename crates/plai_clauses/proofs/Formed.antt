@@ -76,8 +76,6 @@ use Rattle.plai_clauses.specs.ClauseOf.{
 }
 use Rattle.plai_clauses.specs.WellFormed.{IsTargetOf, IsWellFormedClause}
 use Rattle.plai_clauses.proofs.Bodies.{
-  unless_ok,
-  in_front_all,
   two_arguments-Compound,
   named_pair,
   goals_of-Var,
@@ -86,6 +84,7 @@ use Rattle.plai_clauses.proofs.Bodies.{
   goals_of-joined,
   goals_of-single,
 }
+use Rattle.plai_clauses.proofs.PutLiterals.{unless_ok, in_front_all}
 
 -- variables of parts of a term
 

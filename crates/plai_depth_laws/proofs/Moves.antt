@@ -44,7 +44,8 @@ use Rattle.plai_depth_laws.specs.Moves.{skeleton_at, pull, push_args, push_compo
 use Rattle.plai_depth_laws.specs.Order.{IsUnder, same, any, compound, AreUnder, none, more}
 use Rattle.plai_depth_laws.proofs.Equations.{functors_equal, functor_itself}
 use Rattle.plai_depth_laws.proofs.Order.{refl_all, length-AreUnder, IsUnder-trans, AreUnder-trans, under_number, under_atom, over_compound}
-use Rattle.plai_depth_laws.proofs.Meets.{AllAbove, meet_greatest, meet_below, meet_under}
+use Rattle.plai_depth_laws.proofs.Meets.{AllAbove, meet_greatest, meet_below}
+use Rattle.plai_depth_laws.proofs.MeetLayers.{meet_under}
 
 -- ---- equations
 

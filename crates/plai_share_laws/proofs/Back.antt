@@ -60,7 +60,8 @@ use Rattle.plai_share_laws.proofs.Lists.{by_either, map_in}
 use Rattle.plai_share_laws.proofs.Unify.{only_variable}
 use Rattle.plai_share_laws.proofs.Local.{answered_describes}
 use Rattle.plai_share_laws.proofs.Parts.{raised_has, has_raised, raised_above, first_describes}
-use Rattle.plai_share_laws.proofs.Extend.{IsLike, like_describes, extend_describes, extend_slots, side_empty}
+use Rattle.plai_share_laws.proofs.Extend.{extend_describes, extend_slots}
+use Rattle.plai_share_laws.proofs.NewSlots.{IsLike, like_describes, side_empty}
 
 lower : (k n : ℕ) → nat_lt k n ≡ true → k < n
 lower k n t = grind (arith, nat_tests)

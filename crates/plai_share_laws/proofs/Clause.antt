@@ -44,7 +44,7 @@ use Rattle.plai_share_laws.proofs.Members.{IsIn}
 use Rattle.plai_share_laws.proofs.Ordered.{IsBelow}
 use Rattle.plai_share_laws.proofs.Meaning.{Instance, IsInstance, arguments, IsMoved}
 use Rattle.plai_share_laws.proofs.Meaning as meaning
-use Rattle.plai_share_laws.proofs.Extend.{like_describes}
+use Rattle.plai_share_laws.proofs.NewSlots.{like_describes}
 use Rattle.plai_share_laws.proofs.Placed.{placed, term_at, HaveBelow}
 use Rattle.plai_share_laws.proofs.Likes.{placed_like}
 use Rattle.plai_share_laws.proofs.Described.{described, shared}

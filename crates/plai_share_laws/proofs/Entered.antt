@@ -43,7 +43,7 @@ use Rattle.plai_share_laws.proofs.Meaning.{Instance, IsInstance, Describes, new_
 use Rattle.plai_share_laws.specs.Calls.{enter}
 use Rattle.plai_share_laws.proofs.Masks.{by_test, not_both}
 use Rattle.plai_share_laws.proofs.Lists.{by_either}
-use Rattle.plai_share_laws.proofs.Extend.{IsLike, like_describes, news_describe, news_other}
+use Rattle.plai_share_laws.proofs.NewSlots.{IsLike, like_describes, news_describe, news_other}
 use Rattle.plai_share_laws.proofs.Refine.{unified_describes, widened_slots}
 use Rattle.plai_share_laws.specs.Sides.{variable_of, side_of}
 use Rattle.plai_share_laws.proofs.Placed.{placed, change_of, HaveBelow, start_terms, AreSolved, solved}

@@ -71,7 +71,8 @@ use Rattle.plai_share_laws.specs.Calls.{unify_each, enter, extend, raise, side_a
 use Rattle.plai_share_laws.proofs.Masks.{by_test, has_of, of_has, has_zero}
 use Rattle.plai_share_laws.proofs.Unify.{unify_describes}
 use Rattle.plai_share_laws.proofs.Local.{havocked_describes, grounded_describes, same_describes, var_describes, nonvar_describes}
-use Rattle.plai_share_laws.proofs.Extend.{IsLike, like_describes, extend_describes, extend_slots, news_describe}
+use Rattle.plai_share_laws.proofs.Extend.{extend_describes, extend_slots}
+use Rattle.plai_share_laws.proofs.NewSlots.{IsLike, like_describes, news_describe}
 use Rattle.plai_share_laws.proofs.Back.{extended_wf, extended_moved, raise_shift, of_shift, local_up, unifier_up, occurs_down, touch_down, first_again}
 
 var_slots : (t : Side) (v w : Shares) → var_at t v ≡ Some w → w.slots ≡ v.slots

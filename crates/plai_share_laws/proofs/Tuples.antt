@@ -37,7 +37,8 @@ use Rattle.plai_share_laws.proofs.Masks.{by_test}
 use Rattle.plai_share_laws.proofs.Lists.{in_map}
 use Rattle.plai_share_laws.proofs.Parts.{and_parts, and_both}
 use Rattle.plai_share_laws.proofs.Unify.{touch_meets, meets_touch}
-use Rattle.plai_share_laws.proofs.Extend.{IsLike, like_describes, call_describes}
+use Rattle.plai_share_laws.proofs.Extend.{call_describes}
+use Rattle.plai_share_laws.proofs.NewSlots.{IsLike, like_describes}
 use Rattle.plai_terms.specs.Substitution.{under}
 use Rattle.plai_share_laws.specs.Sides.{variable_of, side_of}
 use Rattle.plai_share_laws.proofs.Placed.{placed, term_at, tuple_of}

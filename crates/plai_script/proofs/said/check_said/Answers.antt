@@ -1,7 +1,7 @@
 use Rattle.std.proofs.Common.{ap, ◌∙◌}
 use Rattle.plai_script.specs.Edits.{check_said}
 use Rattle.plai_script.proofs.Formed.{check_said-formed}
-use Rattle.plai_script.proofs.change.check_said.Goals as goal
+use Rattle.plai_script.proofs.said.check_said.Goals as goal
 
 pub returns-in_ok-make_check-in-Ok-clause-well_formed : goal.returns-in_ok-make_check-in-Ok-clause-well_formed
 returns-in_ok-make_check-in-Ok-clause-well_formed c =

@@ -2,7 +2,7 @@ use Rattle.std.proofs.Common.{sym, ap, ◌∙◌}
 use Rattle.std.specs.List.{count_by}
 use Rattle.plai_arcs.specs.Links.{is_pair}
 use Rattle.plai_arcs.proofs.RenameLemmas.{still_named, named_more}
-use Rattle.plai_arcs.proofs.links.rename_calls.Goals as goal
+use Rattle.plai_arcs.proofs.renames.rename_calls.Goals as goal
 
 pub change-requires : goal.change-requires
 change-requires c =

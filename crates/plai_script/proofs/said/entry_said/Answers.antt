@@ -1,7 +1,7 @@
 use Rattle.std.proofs.Common.{ap, ◌∙◌}
 use Rattle.plai_script.specs.Edits.{entry_said}
 use Rattle.plai_script.proofs.Formed.{entry_said-formed}
-use Rattle.plai_script.proofs.change.entry_said.Goals as goal
+use Rattle.plai_script.proofs.said.entry_said.Goals as goal
 
 pub returns-in_ok-make_entry-in-Ok-clause-well_formed : goal.returns-in_ok-make_entry-in-Ok-clause-well_formed
 returns-in_ok-make_entry-in-Ok-clause-well_formed c =

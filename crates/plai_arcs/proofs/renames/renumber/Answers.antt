@@ -1,8 +1,8 @@
 use Rattle.std.proofs.Common.{sym, ◌∙◌}
 use Rattle.plai_arcs.specs.Links.{calls_at, callers_at}
 use Rattle.plai_arcs.specs.Moves.{swapped}
-use Rattle.plai_arcs.proofs.RenameLemmas.{named, none_listed, none_paired, still_old, renumbered, renumber_linked}
-use Rattle.plai_arcs.proofs.links.renumber.Goals as goal
+use Rattle.plai_arcs.proofs.SwapLemmas.{named, none_listed, none_paired, still_old, renumbered, renumber_linked}
+use Rattle.plai_arcs.proofs.renames.renumber.Goals as goal
 
 pub rename_calls-requires : goal.rename_calls-requires
 rename_calls-requires c r k = sym (c.requires.linked.agree r k c.args.last)

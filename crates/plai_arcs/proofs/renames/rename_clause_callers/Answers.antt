@@ -1,7 +1,7 @@
 use Rattle.std.proofs.Common.{nat_eq, sym, ap, ◌∙◌}
 use Rattle.std.specs.List.{count_by}
 use Rattle.plai_arcs.proofs.RenameLemmas.{still_caller, renamed_next}
-use Rattle.plai_arcs.proofs.links.rename_clause_callers.Goals as goal
+use Rattle.plai_arcs.proofs.renames.rename_clause_callers.Goals as goal
 
 pub change-requires : goal.change-requires
 change-requires c =

@@ -2,7 +2,7 @@ use Rattle.std.proofs.Common.{◌≡◌, ◌+◌, cond, nat_eq, nat_lt, ap, ◌�
 use Rattle.std.specs.List.{count_by}
 use Rattle.plai_arcs.specs.Links.{call_count, caller_count}
 use Rattle.plai_arcs.proofs.RenameLemmas.{still_same, not_below_itself, renamed_clause, covered}
-use Rattle.plai_arcs.proofs.links.rename_callers.Goals as goal
+use Rattle.plai_arcs.proofs.renames.rename_callers.Goals as goal
 
 pub rename_clause_callers-requires : goal.rename_clause_callers-requires
 rename_clause_callers-requires c q =
