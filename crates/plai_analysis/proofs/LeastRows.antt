@@ -1,37 +1,6 @@
 -- The rows that calls reach from the entries, where work has ended, are the least table.
-use Rattle.std.proofs.Common.{
-  ◌≡◌,
-  ◌≢◌,
-  ℕ,
-  zero,
-  suc,
-  ◌<◌,
-  ◌≤◌,
-  Bool,
-  true,
-  All,
-  Contains,
-  List,
-  [],
-  ◌∷◌,
-  map,
-  length,
-  get_or,
-  unwrap_or,
-  Option,
-  Some,
-  None,
-  IsSome,
-  sym,
-  refl,
-  ap,
-  ◌∙◌,
-  subst,
-  inl,
-  inr,
-  arith,
-  zero-le,
-}
+use Rattle.std.proofs.Common.{◌≡◌, ◌≢◌, ℕ, zero, suc, ◌<◌, ◌≤◌, Bool, true, All, Contains, List, [], ◌∷◌, map, length, get_or, unwrap_or, Option, Some, None}
+use Rattle.std.proofs.Common.{IsSome, sym, refl, ap, ◌∙◌, subst, inl, inr, arith, zero-le}
 use Rattle.std.specs.List.{AllByRecursion}
 use Rattle.std.specs.List.Sorted.{IsPermutation}
 use Rattle.std.proofs.lemmas.List.Elements.{recursion_from_All}

@@ -6,29 +6,8 @@ use Rattle.plai_theory.specs.Evaluation.{NameOf, name_of, answer_of, calls_of, j
 use Rattle.plai_theory.specs.LeastTable.{Row}
 use Rattle.plai_theory.specs.Tables.{source_of}
 use Rattle.plai_theory.specs.Rounds.{IsAsked, IsMade, Begin, Add, Raise, after_raising}
-use Rattle.plai_theory.specs.LegalWork.{
-  WorkRow,
-  Work,
-  LogEntry,
-  Made,
-  Woke,
-  Evaluated,
-  Grew,
-  find,
-  present_source,
-  new_row,
-  after_waking,
-  after_evaluating,
-  after_growing,
-  calls_now,
-  next_answer,
-  after,
-  IsLegal,
-  IsLegalLog,
-  IsDemanded,
-  no_work,
-  after_all,
-}
+use Rattle.plai_theory.specs.LegalWork.{WorkRow, Work, LogEntry, Made, Woke, Evaluated, Grew, find, present_source, new_row, after_waking, after_evaluating}
+use Rattle.plai_theory.specs.LegalWork.{after_growing, calls_now, next_answer, after, IsLegal, IsLegalLog, IsDemanded, no_work, after_all}
 use Rattle.plai_theory.specs.Count.{HaveOwnNames}
 use Rattle.plai_theory.proofs.Options.{by_test}
 use Rattle.plai_theory.proofs.Eval.{same_answer, same_called}

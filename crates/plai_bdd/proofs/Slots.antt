@@ -1,32 +1,6 @@
 -- What conjunction and quantification over a set of slots say.
-use Rattle.std.proofs.Common.{
-  ◌≡◌,
-  ℕ,
-  zero,
-  suc,
-  ◌+◌,
-  ◌<◌,
-  Bool,
-  true,
-  false,
-  cond,
-  not,
-  ◌&&◌,
-  ◌||◌,
-  ◌↔◌,
-  IsTrue,
-  List,
-  refl,
-  sym,
-  ap,
-  ◌∙◌,
-  true≢false,
-  arith,
-  ◌⊎◌,
-  inl,
-  inr,
-  add-one,
-}
+use Rattle.std.proofs.Common.{◌≡◌, ℕ, zero, suc, ◌+◌, ◌<◌, Bool, true, false, cond, not, ◌&&◌, ◌||◌, ◌↔◌, IsTrue, List, refl, sym, ap, ◌∙◌, true≢false, arith}
+use Rattle.std.proofs.Common.{◌⊎◌, inl, inr, add-one}
 use Rattle.std.proofs.lemmas.Bool.{and_parts, or_cases}
 use Rattle.std.specs.Bool.{beq}
 use Rattle.plai_base.specs.Mask.{has_slot}
@@ -34,19 +8,8 @@ use Rattle.plai_bdd.specs.Assignment.{Assignment, with_slot, IsFree}
 use Rattle.plai_bdd.specs.Slots.{all_hold, some_hold, some_slot, conjunction, quantified, AllTrue, Somewhere}
 use Rattle.plai_bdd.specs.declared.node.Node.{Node}
 use Rattle.plai_bdd.specs.Nodes.{holds, IsCanonical, IsFunction}
-use Rattle.plai_bdd.proofs.Differing.{
-  DifferBelow,
-  last_or,
-  same_at,
-  more_without,
-  more_with,
-  less_without,
-  less_with,
-  differ_with,
-  differ_then,
-  differ_back,
-  put_back,
-}
+use Rattle.plai_bdd.proofs.Differing.{DifferBelow, last_or, same_at, more_without, more_with, less_without, less_with, differ_with, differ_then, differ_back}
+use Rattle.plai_bdd.proofs.Differing.{put_back}
 
 -- the words of specs/Slots.antt, of the slots below a bound
 abbrev SomewhereBelow : ℕ → ℕ → (Assignment → Bool) → Assignment → Type 0

@@ -1,36 +1,6 @@
 -- The steps of combining two places: leaves, a slot that is placed, and a slot that is fixed.
-use Rattle.std.proofs.Common.{
-  true≢false,
-  Result,
-  Ok,
-  Err,
-  IfOk,
-  OnOk,
-  ◌≡◌,
-  ◌≢◌,
-  ℕ,
-  ◌+◌,
-  ◌<◌,
-  ◌≤◌,
-  Bool,
-  true,
-  false,
-  cond,
-  nat_eq,
-  min,
-  ◌||◌,
-  List,
-  get_or,
-  refl,
-  sym,
-  ap,
-  subst,
-  ◌∙◌,
-  arith,
-  ◌⊎◌,
-  inl,
-  inr,
-}
+use Rattle.std.proofs.Common.{true≢false, Result, Ok, Err, IfOk, OnOk, ◌≡◌, ◌≢◌, ℕ, ◌+◌, ◌<◌, ◌≤◌, Bool, true, false, cond, nat_eq, min, ◌||◌, List, get_or}
+use Rattle.std.proofs.Common.{refl, sym, ap, subst, ◌∙◌, arith, ◌⊎◌, inl, inr}
 use Rattle.std.proofs.lemmas.Bool.{or_cases}
 use Rattle.std.proofs.Math.Bool.{and-false, or-true}
 use Rattle.plai_bdd.specs.Assignment.{Assignment}
@@ -43,21 +13,8 @@ use Rattle.plai_bdd.specs.declared.change.Placed.TheVariants.{At, Fixed, Parted}
 use Rattle.plai_bdd.specs.Change.{absorbs, answer_of, placed, can_place, moved, changed, top_of}
 use Rattle.plai_bdd.specs.Tree.{value}
 use Rattle.plai_bdd.specs.Nodes.{place_of, put, tree_at}
-use Rattle.plai_bdd.specs.Table.{
-  no_node,
-  IsTable,
-  IsGrown,
-  IsSource,
-  Adds,
-  slot_of,
-  leaf_answer,
-  is_absorbing,
-  children_of,
-  joined_place,
-  joined_table,
-  least_of,
-  function_of,
-}
+use Rattle.plai_bdd.specs.Table.{no_node, IsTable, IsGrown, IsSource, Adds, slot_of, leaf_answer, is_absorbing, children_of, joined_place, joined_table}
+use Rattle.plai_bdd.specs.Table.{least_of, function_of}
 use Rattle.plai_bdd.proofs.Adding.{Adds-as, Adds-leaf, Adds-join}
 use Rattle.plai_bdd.proofs.Tables.{IsGrown-same, put_grown}
 use Rattle.plai_bdd.proofs.Splits.{IsSplit, top_at_most, top_is, leaf_is, children_split, top_fits, placed_at, placed_fixed, placed_parted, moved_more}

@@ -5,18 +5,8 @@ use Rattle.std.specs.Ordering.{int_eq}
 use Rattle.std.specs.Option.{option_map, option_and_then}
 use Rattle.std.specs.List.{AllByRecursion}
 use Rattle.std.proofs.lemmas.List.{length-map}
-use Rattle.plai_terms.specs.declared.skeleton.Skeleton.{
-  Skeleton,
-  out-Skeleton,
-  roll-Skeleton,
-  out-roll-Skeleton,
-  map-Skeleton,
-  Any,
-  Integer,
-  Int,
-  Atom,
-  Compound,
-}
+use Rattle.plai_terms.specs.declared.skeleton.Skeleton.{Skeleton, out-Skeleton, roll-Skeleton, out-roll-Skeleton, map-Skeleton, Any, Integer, Int, Atom}
+use Rattle.plai_terms.specs.declared.skeleton.Skeleton.{Compound}
 use Rattle.plai_terms.specs.declared.skeleton.Skeleton.TheOpen.{Skeleton-F}
 use Rattle.plai_terms.specs.declared.skeleton.Skeleton.TheVariants.{outs-Any, outs-Integer, outs-Int, outs-Atom, outs-Compound}
 use Rattle.plai_terms.proofs.Same.{names_equal}
@@ -25,18 +15,8 @@ use Rattle.plai_depth_laws.specs.Skeletons.{same_functor, consed, meet_args, mee
 use Rattle.plai_depth_laws.specs.Order.{IsUnder, same, any, integer, compound, AreUnder, none, more}
 use Rattle.plai_depth_laws.proofs.Equations.{is-Integer, is-Int, is-Atom, meet_at, integers_equal, functors_equal}
 use Rattle.plai_depth_laws.proofs.Order.{length-AreUnder}
-use Rattle.plai_depth_laws.proofs.MeetLayers.{
-  meet-any,
-  meet-integer,
-  meet-number,
-  meet-atom,
-  meet-compound,
-  consed_somes,
-  compound_meets,
-  any_second,
-  meet_under,
-  meet_over,
-}
+use Rattle.plai_depth_laws.proofs.MeetLayers.{meet-any, meet-integer, meet-number, meet-atom, meet-compound, consed_somes, compound_meets, any_second}
+use Rattle.plai_depth_laws.proofs.MeetLayers.{meet_under, meet_over}
 
 -- ---- it is the greatest
 

@@ -1,33 +1,6 @@
 -- What is pulled out of skeletons keeps the order, and a push gives the greatest skeletons under which the term lies below what is pushed.
-use Rattle.std.proofs.Common.{
-  ◌≡◌,
-  inl,
-  inr,
-  ℕ,
-  zero,
-  suc,
-  ◌<◌,
-  ℤ,
-  true,
-  false,
-  cond,
-  nat_lt,
-  List,
-  [],
-  ◌∷◌,
-  map,
-  length,
-  set,
-  Option,
-  Some,
-  None,
-  refl,
-  sym,
-  ap,
-  ◌∙◌,
-  subst,
-  rules,
-}
+use Rattle.std.proofs.Common.{◌≡◌, inl, inr, ℕ, zero, suc, ◌<◌, ℤ, true, false, cond, nat_lt, List, [], ◌∷◌, map, length, set, Option, Some, None, refl, sym}
+use Rattle.std.proofs.Common.{ap, ◌∙◌, subst, rules}
 use Rattle.std.specs.Option.{option_map, option_and_then}
 use Rattle.std.specs.List.{list_all, AllByRecursion}
 use Rattle.std.proofs.lemmas.List.{length-map, get_or-set_same}

@@ -1,27 +1,5 @@
 -- What a file imports, where none of its directives is refused.
-use Rattle.std.proofs.Common.{
-  ◌≡◌,
-  ℕ,
-  Bool,
-  true,
-  false,
-  ◌&&◌,
-  not,
-  nat_eq,
-  eq-eqb,
-  List,
-  [],
-  ◌∷◌,
-  ◌++◌,
-  inl,
-  inr,
-  refl,
-  ap,
-  sym,
-  ◌∙◌,
-  subst,
-  if◌then◌else◌,
-}
+use Rattle.std.proofs.Common.{◌≡◌, ℕ, Bool, true, false, ◌&&◌, not, nat_eq, eq-eqb, List, [], ◌∷◌, ◌++◌, inl, inr, refl, ap, sym, ◌∙◌, subst, if◌then◌else◌}
 use Rattle.std.specs.Prelude.{Option, Some, None, is_some, Result, Ok, Err}
 use Rattle.std.specs.Option.{option_map_or}
 use Rattle.std.specs.List.{list_any, list_all}
@@ -36,20 +14,8 @@ use Rattle.plai_sources.specs.declared.items.Item.{Item}
 use Rattle.plai_sources.specs.declared.items.Item.TheVariants.{UseModule, Entry, Check, Clause}
 use Rattle.plai_sources.specs.Items.{Refusal}
 use Rattle.plai_modules.specs.Steps.{and_then, steps}
-use Rattle.plai_modules.specs.Importing.{
-  file_of,
-  keys_of,
-  is_exported,
-  has_clause,
-  is_from_another,
-  clashes,
-  with_import,
-  with_imports,
-  imported_from,
-  at_term,
-  behind_item,
-  behind_term,
-}
+use Rattle.plai_modules.specs.Importing.{file_of, keys_of, is_exported, has_clause, is_from_another, clashes, with_import, with_imports, imported_from}
+use Rattle.plai_modules.specs.Importing.{at_term, behind_item, behind_term}
 
 -- looking up a key
 

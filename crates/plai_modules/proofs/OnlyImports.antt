@@ -10,21 +10,8 @@ use Rattle.plai_sources.specs.declared.items.NumberedItem.{NumberedItem}
 use Rattle.plai_sources.specs.declared.items.Item.{Item}
 use Rattle.plai_sources.specs.declared.items.Item.TheVariants.{UseModule, Entry, Check, Clause}
 use Rattle.plai_modules.specs.Steps.{steps}
-use Rattle.plai_modules.specs.Importing.{
-  file_of,
-  keys_of,
-  is_exported,
-  has_clause,
-  is_from_another,
-  clashes,
-  with_import,
-  with_imports,
-  imported_from,
-  behind_item,
-  behind_term,
-  imports_of,
-  IsImport,
-}
+use Rattle.plai_modules.specs.Importing.{file_of, keys_of, is_exported, has_clause, is_from_another, clashes, with_import, with_imports, imported_from}
+use Rattle.plai_modules.specs.Importing.{behind_item, behind_term, imports_of, IsImport}
 use Rattle.plai_modules.proofs.Imported.{added, neither, both, none-of, accepted, unnumbered, taken}
 
 -- nothing else is imported

@@ -1,33 +1,6 @@
 -- What is known of terms from what is known of their variables, as diagrams.
-use Rattle.std.proofs.Common.{
-  ◌≡◌,
-  ℕ,
-  ◌+◌,
-  ◌-◌,
-  ◌^◌,
-  ◌<◌,
-  ◌≤◌,
-  Bool,
-  true,
-  nat_eq,
-  ◌&&◌,
-  ◌↔◌,
-  IsTrue,
-  List,
-  [],
-  ◌∷◌,
-  ◌++◌,
-  length,
-  get_or,
-  ◌⊎◌,
-  inl,
-  inr,
-  sym,
-  ap,
-  subst,
-  ◌∙◌,
-  arith,
-}
+use Rattle.std.proofs.Common.{◌≡◌, ℕ, ◌+◌, ◌-◌, ◌^◌, ◌<◌, ◌≤◌, Bool, true, nat_eq, ◌&&◌, ◌↔◌, IsTrue, List, [], ◌∷◌, ◌++◌, length, get_or, ◌⊎◌, inl, inr, sym}
+use Rattle.std.proofs.Common.{ap, subst, ◌∙◌, arith}
 use Rattle.std.specs.Bool.{beq}
 use Rattle.std.proofs.lemmas.Bool.{eq-eqb, eqb-true, and_parts, and_from}
 use Rattle.plai_base.specs.Mask.{has_slot, all_true}

@@ -15,23 +15,7 @@ use Rattle.plai_reader.specs.Operators.{Table}
 use Rattle.plai_reader.specs.declared.variables.Variables.{Variables}
 use Rattle.plai_reader.specs.Variables.{number_at}
 use Rattle.plai_reader.specs.Roles.{is_end, decided}
-use Rattle.plai_reader.specs.Reading.{
-  Layer,
-  State,
-  first_place,
-  links_of,
-  whole,
-  within,
-  limit_of,
-  back,
-  item,
-  performed,
-  noted,
-  behind,
-  ended,
-  last,
-  run,
-}
+use Rattle.plai_reader.specs.Reading.{Layer, State, first_place, links_of, whole, within, limit_of, back, item, performed, noted, behind, ended, last, run}
 use Rattle.plai_reader.proofs.Spine.{Place}
 use Rattle.plai_reader.proofs.Runs.{run-cons}
 

@@ -15,28 +15,8 @@ use Rattle.plai_reader.specs.Operators.{Table}
 use Rattle.plai_reader.specs.declared.variables.Variables.{Variables}
 use Rattle.plai_reader.specs.Variables.{number_at, after_token}
 use Rattle.plai_reader.specs.Roles.{is_end, decided}
-use Rattle.plai_reader.specs.Reading.{
-  Layer,
-  State,
-  whole,
-  wanting,
-  within,
-  limit_of,
-  closed,
-  leaf_tree,
-  placed,
-  back,
-  pushed,
-  item,
-  performed,
-  noted,
-  behind,
-  ended,
-  last,
-  run,
-  start,
-  read_of,
-}
+use Rattle.plai_reader.specs.Reading.{Layer, State, whole, wanting, within, limit_of, closed, leaf_tree, placed, back, pushed, item, performed, noted, behind}
+use Rattle.plai_reader.specs.Reading.{ended, last, run, start, read_of}
 use Rattle.plai_reader.proofs.Spine.{Place}
 use Rattle.plai_reader.proofs.Trees.{climbed-tree}
 use Rattle.plai_reader.proofs.Runs.{run-cons}

@@ -1,31 +1,6 @@
 -- The tree by the weakest operator is the value of the spine.
-use Rattle.std.proofs.Common.{
-  ◌≡◌,
-  ℕ,
-  zero,
-  suc,
-  ◌+◌,
-  ◌<◌,
-  ◌≤◌,
-  Bool,
-  true,
-  false,
-  cond,
-  ◌⊎◌,
-  inl,
-  inr,
-  List,
-  [],
-  ◌∷◌,
-  ◌++◌,
-  length,
-  refl,
-  ap,
-  sym,
-  ◌∙◌,
-  subst,
-  arith,
-}
+use Rattle.std.proofs.Common.{◌≡◌, ℕ, zero, suc, ◌+◌, ◌<◌, ◌≤◌, Bool, true, false, cond, ◌⊎◌, inl, inr, List, [], ◌∷◌, ◌++◌, length, refl, ap, sym, ◌∙◌}
+use Rattle.std.proofs.Common.{subst, arith}
 use Rattle.std.specs.Prelude.{Option, Some, None, option_and_then, nat_eq, nat_lt}
 use Rattle.std.proofs.lemmas.Bool.Decides.{nat_tests}
 use Rattle.plai_reader.specs.declared.operator.OpKind.{OpKind}
@@ -37,23 +12,8 @@ use Rattle.plai_reader.specs.Kinds.{left_of, right_of, leans_right}
 use Rattle.plai_reader.specs.Level.{Builder, Link, taken, greatest, Cut, later, leftmost, or_else, rightmost, weakest, tree_within}
 use Rattle.plai_reader.specs.Climb.{holds}
 use Rattle.plai_reader.proofs.Spine.{Place, Spine, leaf, node, joined, value, enter, enter_all, fresh, enter-free}
-use Rattle.plai_reader.proofs.Leftmost.{
-  AllBelow,
-  AllBelow-greatest,
-  test_free,
-  holds-equal,
-  Held-below,
-  RootBelow,
-  enter-below,
-  RootBelow-enter,
-  parts,
-  here,
-  cut-here,
-  LeftClaim,
-  eq_true,
-  eq_false,
-  left-is,
-}
+use Rattle.plai_reader.proofs.Leftmost.{AllBelow, AllBelow-greatest, test_free, holds-equal, Held-below, RootBelow, enter-below, RootBelow-enter, parts, here}
+use Rattle.plai_reader.proofs.Leftmost.{cut-here, LeftClaim, eq_true, eq_false, left-is}
 
 module _ {T : Type 0} (build : Builder T) where
   -- a root that can't be applied, whatever comes on its right

@@ -1,32 +1,6 @@
 -- The terms of the edit that a term is.
-use Rattle.std.proofs.Common.{
-  ◌≡◌,
-  ◌∙◌,
-  ℕ,
-  ◌<◌,
-  ◌^◌,
-  ℤ,
-  Bool,
-  true,
-  false,
-  cond,
-  nat_eq,
-  Option,
-  Some,
-  None,
-  List,
-  [],
-  ◌∷◌,
-  ◌++◌,
-  map,
-  flat_map,
-  refl,
-  sym,
-  ap,
-  subst,
-  rules,
-  codes,
-}
+use Rattle.std.proofs.Common.{◌≡◌, ◌∙◌, ℕ, ◌<◌, ◌^◌, ℤ, Bool, true, false, cond, nat_eq, Option, Some, None, List, [], ◌∷◌, ◌++◌, map, flat_map, refl, sym}
+use Rattle.std.proofs.Common.{ap, subst, rules, codes}
 use Rattle.std.specs.Prelude.{All, option_map, option_and_then}
 use Rattle.std.specs.List.{AllByRecursion}
 use Rattle.std.specs.Cmp.Lexicographic.{pointwise}
@@ -39,21 +13,8 @@ use Rattle.plai_sources.specs.Shapes.{atom_of, one, one_argument, list_items, ea
 use Rattle.plai_script.specs.declared.edit.Edit.{Edit, Add, Del, Drop, Entry, Unentry, Check, Uncheck, the_lemmas as edit_lemmas}
 use Rattle.plai_script.specs.declared.edit.Edit as edit
 use Rattle.plai_script.specs.OwnTerms.{own_term}
-use Rattle.plai_script.specs.Shapes.{
-  integer_of,
-  key_of,
-  of_term,
-  of_number,
-  drop,
-  del,
-  edit_of_two,
-  edit_of_three,
-  single_at,
-  single_of,
-  all_of,
-  edit_from,
-  edit_of_term,
-}
+use Rattle.plai_script.specs.Shapes.{integer_of, key_of, of_term, of_number, drop, del, edit_of_two, edit_of_three, single_at, single_of, all_of, edit_from}
+use Rattle.plai_script.specs.Shapes.{edit_of_term}
 use Rattle.plai_script.specs.Readable.{IsPart, terms_of, IsReadableEdit}
 use Rattle.plai_script.proofs.Variables.{own_readable}
 use Rattle.plai_script.proofs.Parts.{mapped, chained, parts, part_of_one, items_parts}

@@ -1,63 +1,13 @@
 -- The state that is extended by a literal's arguments, and call.
-use Rattle.std.proofs.Common.{
-  ◌≡◌,
-  ℕ,
-  zero,
-  suc,
-  ◌+◌,
-  ◌-◌,
-  ◌<◌,
-  ◌≤◌,
-  Bool,
-  true,
-  false,
-  nat_lt,
-  List,
-  [],
-  ◌∷◌,
-  length,
-  Some,
-  refl,
-  sym,
-  ◌∙◌,
-  ap,
-  subst,
-  arith,
-}
+use Rattle.std.proofs.Common.{◌≡◌, ℕ, zero, suc, ◌+◌, ◌-◌, ◌<◌, ◌≤◌, Bool, true, false, nat_lt, List, [], ◌∷◌, length, Some, refl, sym, ◌∙◌, ap, subst, arith}
 use Rattle.std.proofs.lemmas.Bool.Decides.{nat_tests}
 use Rattle.plai_share_laws.specs.Shares.{Shares, Side, Slot, unify, widen, widen_by}
-use Rattle.plai_share_laws.proofs.Meaning.{
-  Instance,
-  IsInstance,
-  Describes,
-  last_terms,
-  side_occurs,
-  side_variable,
-  arguments,
-  extended,
-  AreBelow,
-  new_terms,
-}
+use Rattle.plai_share_laws.proofs.Meaning.{Instance, IsInstance, Describes, last_terms, side_occurs, side_variable, arguments, extended, AreBelow, new_terms}
 use Rattle.plai_share_laws.specs.Calls.{unify_each, extend, call}
 use Rattle.plai_share_laws.proofs.Masks.{by_test}
 use Rattle.plai_share_laws.proofs.Parts.{last_describes}
-use Rattle.plai_share_laws.proofs.NewSlots.{
-  IsLike,
-  like_describes,
-  like_wf,
-  put_terms,
-  each_describes,
-  news_own,
-  news_describe,
-  puts_other,
-  news_other,
-  AreSame,
-  side_occurs_same,
-  side_variable_same,
-  side_none,
-  side_empty,
-  puts_here,
-}
+use Rattle.plai_share_laws.proofs.NewSlots.{IsLike, like_describes, like_wf, put_terms, each_describes, news_own, news_describe, puts_other, news_other}
+use Rattle.plai_share_laws.proofs.NewSlots.{AreSame, side_occurs_same, side_variable_same, side_none, side_empty, puts_here}
 
 module _ (n number : ℕ) (args : List Side) (v : Shares) (i : Instance) (size : v.slots ≡ n) (low : AreBelow n args)
     (wf : IsInstance n number i) where

@@ -1,50 +1,13 @@
 -- Terms that are put at slots of their own: what is described, and what stands at each slot afterwards.
-use Rattle.std.proofs.Common.{
-  ◌≡◌,
-  ◌≢◌,
-  ℕ,
-  zero,
-  suc,
-  ◌+◌,
-  ◌<◌,
-  ◌≤◌,
-  Bool,
-  true,
-  false,
-  nat_eq,
-  List,
-  [],
-  ◌∷◌,
-  length,
-  Some,
-  None,
-  refl,
-  sym,
-  ◌∙◌,
-  ap,
-  subst,
-  inl,
-  inr,
-  arith,
-}
+use Rattle.std.proofs.Common.{◌≡◌, ◌≢◌, ℕ, zero, suc, ◌+◌, ◌<◌, ◌≤◌, Bool, true, false, nat_eq, List, [], ◌∷◌, length, Some, None, refl, sym, ◌∙◌, ap, subst}
+use Rattle.std.proofs.Common.{inl, inr, arith}
 use Rattle.std.proofs.lemmas.Bool.{eq-eqb, eqb-true}
 use Rattle.plai_share_laws.proofs.Members.{IsIn, mask_from}
 use Rattle.plai_share_laws.specs.Groups.{meets}
 use Rattle.plai_share_laws.specs.Shares.{Shares, Side, Slot, Other, slots_of, unify, widen, widen_by}
 use Rattle.plai_share_laws.proofs.Ordered.{IsBelow}
-use Rattle.plai_share_laws.proofs.Meaning.{
-  Instance,
-  IsInstance,
-  group,
-  Describes,
-  variable_at,
-  put_term,
-  new_term,
-  side_occurs,
-  side_variable,
-  AreBelow,
-  new_terms,
-}
+use Rattle.plai_share_laws.proofs.Meaning.{Instance, IsInstance, group, Describes, variable_at, put_term, new_term, side_occurs, side_variable, AreBelow}
+use Rattle.plai_share_laws.proofs.Meaning.{new_terms}
 use Rattle.plai_share_laws.specs.Calls.{unify_each}
 use Rattle.plai_share_laws.proofs.Masks.{by_test, not_both, same_mask, has_of, meet_slot, from_has, has_from}
 use Rattle.plai_share_laws.proofs.Unify.{unify_describes}

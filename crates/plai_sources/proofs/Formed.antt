@@ -1,36 +1,6 @@
 -- What terms say is well formed.
-use Rattle.std.proofs.Common.{
-  ◌≡◌,
-  ◌∙◌,
-  ℕ,
-  ◌+◌,
-  ◌≤◌,
-  ◌<◌,
-  ◌⊎◌,
-  inl,
-  inr,
-  Bool,
-  true,
-  false,
-  cond,
-  Option,
-  Some,
-  None,
-  Result,
-  Ok,
-  Err,
-  List,
-  [],
-  ◌∷◌,
-  ◌++◌,
-  add-zero,
-  refl,
-  sym,
-  ap,
-  subst,
-  arith,
-  codes,
-}
+use Rattle.std.proofs.Common.{◌≡◌, ◌∙◌, ℕ, ◌+◌, ◌≤◌, ◌<◌, ◌⊎◌, inl, inr, Bool, true, false, cond, Option, Some, None, Result, Ok, Err, List, [], ◌∷◌, ◌++◌}
+use Rattle.std.proofs.Common.{add-zero, refl, sym, ap, subst, arith, codes}
 use Rattle.std.specs.Prelude.{option_map, ok_or, nat_lt, nat_eq, IfSome, IsOk}
 use Rattle.std.specs.Cmp.Lexicographic.{pointwise}
 use Rattle.std.proofs.lemmas.Bool.Decides.{nat_tests}
@@ -55,35 +25,10 @@ use Rattle.plai_sources.specs.Shapes.{one_argument}
 use Rattle.plai_sources.specs.Keys.{keys_of}
 use Rattle.plai_sources.specs.Properties.{entry_of, check_of}
 use Rattle.plai_sources.specs.Operators.{operators_of}
-use Rattle.plai_sources.specs.Directives.{
-  Said,
-  other_module,
-  import,
-  import_all,
-  import_some,
-  item_of_one,
-  item_of_two,
-  with_item,
-  with_operators,
-  directive_at,
-  directive_in,
-  clause_from,
-  said_from,
-  said_by,
-  header_of,
-}
-use Rattle.plai_sources.specs.Items.{
-  most_items,
-  is_counted,
-  placed,
-  with_item as with_placed,
-  with_item_if,
-  under,
-  with_said,
-  with_header,
-  with_term_under,
-  with_term,
-}
+use Rattle.plai_sources.specs.Directives.{Said, other_module, import, import_all, import_some, item_of_one, item_of_two, with_item, with_operators}
+use Rattle.plai_sources.specs.Directives.{directive_at, directive_in, clause_from, said_from, said_by, header_of}
+use Rattle.plai_sources.specs.Items.{most_items, is_counted, placed, with_item as with_placed, with_item_if, under, with_said, with_header, with_term_under}
+use Rattle.plai_sources.specs.Items.{with_term}
 use Rattle.plai_sources.specs.WellFormed.{IsWellFormedItem, AreWellFormedUnder, counted_items, IsGood}
 use Rattle.plai_sources.proofs.FormedProperties.{mapped, chained, found, entry_of-formed, check_from-formed}
 

@@ -1,31 +1,6 @@
 -- The goals, entries and checks that terms say are well formed.
-use Rattle.std.proofs.Common.{
-  ◌≡◌,
-  ◌∙◌,
-  ℕ,
-  ◌+◌,
-  ◌≤◌,
-  ◌<◌,
-  Bool,
-  true,
-  false,
-  not,
-  ◌&&◌,
-  cond,
-  Option,
-  Some,
-  None,
-  Ok,
-  List,
-  [],
-  ◌∷◌,
-  length,
-  refl,
-  ap,
-  subst,
-  arith,
-  codes,
-}
+use Rattle.std.proofs.Common.{◌≡◌, ◌∙◌, ℕ, ◌+◌, ◌≤◌, ◌<◌, Bool, true, false, not, ◌&&◌, cond, Option, Some, None, Ok, List, [], ◌∷◌, length, refl, ap, subst}
+use Rattle.std.proofs.Common.{arith, codes}
 use Rattle.std.specs.Prelude.{All, option_map, option_and_then, ok_or, position, nat_le, nat_eq}
 use Rattle.std.specs.Cmp.Lexicographic.{pointwise}
 use Rattle.std.proofs.lemmas.Bool.Decides.{nat_tests}
@@ -46,32 +21,9 @@ use Rattle.plai_sources.specs.declared.properties.Call.{Call}
 use Rattle.plai_sources.specs.declared.items.EntryItem.{EntryItem}
 use Rattle.plai_sources.specs.declared.items.CheckItem.{CheckItem}
 use Rattle.plai_sources.specs.Shapes.{variable_of, each}
-use Rattle.plai_sources.specs.Properties.{
-  are_distinct,
-  open_goal,
-  goal_at,
-  goal_in,
-  goal_of,
-  place_among,
-  place_of,
-  property_named,
-  apart,
-  property_at,
-  property_in,
-  property_of,
-  properties_of,
-  call,
-  call_with,
-  call_from,
-  call_of,
-  entry,
-  entry_of,
-  check,
-  calls_of,
-  success_with,
-  success_of,
-  check_from,
-}
+use Rattle.plai_sources.specs.Properties.{are_distinct, open_goal, goal_at, goal_in, goal_of, place_among, place_of, property_named, apart, property_at}
+use Rattle.plai_sources.specs.Properties.{property_in, property_of, properties_of, call, call_with, call_from, call_of, entry, entry_of, check, calls_of}
+use Rattle.plai_sources.specs.Properties.{success_with, success_of, check_from}
 use Rattle.plai_sources.specs.WellFormed.{IsEntryItem, IsCheckItem}
 use Rattle.plai_sources.proofs.Each.{length-each, All-each}
 

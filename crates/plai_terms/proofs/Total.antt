@@ -1,33 +1,6 @@
 -- Equations are solved in finitely many steps: each binding takes a variable away, each other step makes the equations smaller.
-use Rattle.std.proofs.Common.{
-  ◌≡◌,
-  inl,
-  inr,
-  ℕ,
-  zero,
-  suc,
-  ◌+◌,
-  ◌<◌,
-  ◌≤◌,
-  Bool,
-  true,
-  false,
-  ◌||◌,
-  eqb,
-  List,
-  [],
-  ◌∷◌,
-  ◌++◌,
-  map,
-  sum,
-  length,
-  Some,
-  refl,
-  ap,
-  ◌∙◌,
-  rules,
-  arith,
-}
+use Rattle.std.proofs.Common.{◌≡◌, inl, inr, ℕ, zero, suc, ◌+◌, ◌<◌, ◌≤◌, Bool, true, false, ◌||◌, eqb, List, [], ◌∷◌, ◌++◌, map, sum, length, Some, refl, ap}
+use Rattle.std.proofs.Common.{◌∙◌, rules, arith}
 use Rattle.std.proofs.lemmas.Bool.{eqb-true}
 use Rattle.std.proofs.lemmas.List.Sums.{sum_by-cons}
 use Rattle.plai_terms.specs.Term.{occurs}

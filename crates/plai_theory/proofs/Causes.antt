@@ -4,27 +4,8 @@ use Rattle.plai_theory.specs.Words.{IsIn, given, item}
 use Rattle.plai_theory.specs.Domain.{Domain, Program, IsLawful}
 use Rattle.plai_theory.specs.Evaluation.{NameOf}
 use Rattle.plai_theory.specs.LeastTable.{Row}
-use Rattle.plai_theory.specs.LegalWork.{
-  WorkRow,
-  Work,
-  Made,
-  Woke,
-  Evaluated,
-  Grew,
-  find,
-  new_row,
-  mentions,
-  after_waking,
-  after_evaluating,
-  after_growing,
-  calls_now,
-  after,
-  IsLegal,
-  IsLegalLog,
-  after_all,
-  work_with,
-  LogEntry,
-}
+use Rattle.plai_theory.specs.LegalWork.{WorkRow, Work, Made, Woke, Evaluated, Grew, find, new_row, mentions, after_waking, after_evaluating, after_growing}
+use Rattle.plai_theory.specs.LegalWork.{calls_now, after, IsLegal, IsLegalLog, after_all, work_with, LogEntry}
 use Rattle.plai_theory.specs.Edits.{IsKept, IsOpening, grown_names, grown_back, IsCaused}
 use Rattle.plai_theory.proofs.Options.{by_test}
 use Rattle.plai_theory.proofs.Rows.{find_map, find_push, by_map}

@@ -1,29 +1,6 @@
 -- Kept rows lie below the new stages, so work may open with them.
-use Rattle.std.proofs.Common.{
-  ◌≡◌,
-  ℕ,
-  zero,
-  suc,
-  ◌≤◌,
-  true,
-  false,
-  List,
-  [],
-  ◌∷◌,
-  ◌++◌,
-  append-nil,
-  Option,
-  Some,
-  None,
-  sym,
-  refl,
-  ap,
-  ◌∙◌,
-  subst,
-  inl,
-  inr,
-  arith,
-}
+use Rattle.std.proofs.Common.{◌≡◌, ℕ, zero, suc, ◌≤◌, true, false, List, [], ◌∷◌, ◌++◌, append-nil, Option, Some, None, sym, refl, ap, ◌∙◌, subst, inl, inr}
+use Rattle.std.proofs.Common.{arith}
 use Rattle.plai_theory.specs.Words.{IsIn, given, UpTo, item}
 use Rattle.plai_theory.specs.Domain.{Domain, Program, IsLawful}
 use Rattle.plai_theory.specs.Evaluation.{Source, NameOf, name_of, answer_of, calls_of}

@@ -1,47 +1,12 @@
 -- The invariant of legal work, which rows that are made, woken and evaluated keep.
-use Rattle.std.proofs.Common.{
-  ◌≡◌,
-  ◌⊎◌,
-  ℕ,
-  true,
-  false,
-  cond,
-  List,
-  [],
-  ◌∷◌,
-  ◌++◌,
-  map,
-  Option,
-  Some,
-  None,
-  nat_eq,
-  eqb-true,
-  sym,
-  refl,
-  ap,
-  ap₂,
-  ◌∙◌,
-  subst,
-  inl,
-  inr,
-}
+use Rattle.std.proofs.Common.{◌≡◌, ◌⊎◌, ℕ, true, false, cond, List, [], ◌∷◌, ◌++◌, map, Option, Some, None, nat_eq, eqb-true, sym, refl, ap, ap₂, ◌∙◌, subst}
+use Rattle.std.proofs.Common.{inl, inr}
 use Rattle.plai_theory.specs.Words.{IsIn, given, UpTo, item}
 use Rattle.plai_theory.specs.Domain.{Domain, Program, IsLawful}
 use Rattle.plai_theory.specs.Evaluation.{Source, NameOf, name_of, answer_of, calls_of}
 use Rattle.plai_theory.specs.Stages.{IsFromBelow}
-use Rattle.plai_theory.specs.LegalWork.{
-  WorkRow,
-  Work,
-  find,
-  present_source,
-  new_row,
-  after_waking,
-  after_evaluating,
-  calls_now,
-  next_answer,
-  NoneDue,
-  IsDemanded,
-}
+use Rattle.plai_theory.specs.LegalWork.{WorkRow, Work, find, present_source, new_row, after_waking, after_evaluating, calls_now, next_answer, NoneDue}
+use Rattle.plai_theory.specs.LegalWork.{IsDemanded}
 use Rattle.plai_theory.proofs.Options.{by_test}
 use Rattle.plai_theory.proofs.Eval.{same_answer, same_called}
 use Rattle.plai_theory.proofs.Stages.{left_at, joined_first, joined_second}

@@ -5,29 +5,8 @@ use Rattle.plai_theory.specs.Domain.{Domain, Program, IsLawful}
 use Rattle.plai_theory.specs.Evaluation.{NameOf, answer_of, calls_of}
 use Rattle.plai_theory.specs.Stages.{Reaches, AtEntry, ByCall, IsSettled}
 use Rattle.plai_theory.specs.LeastTable.{Row, Order, IsLeastTable}
-use Rattle.plai_theory.specs.LegalWork.{
-  WorkRow,
-  Work,
-  Made,
-  Woke,
-  Evaluated,
-  Grew,
-  find,
-  present_source,
-  after_growing,
-  after,
-  IsDue,
-  IsLegal,
-  IsLegalLog,
-  after_all,
-  IsEnd,
-  IsNeeded,
-  First,
-  Then,
-  IsLogResult,
-  no_work,
-  LogEntry,
-}
+use Rattle.plai_theory.specs.LegalWork.{WorkRow, Work, Made, Woke, Evaluated, Grew, find, present_source, after_growing, after, IsDue, IsLegal, IsLegalLog}
+use Rattle.plai_theory.specs.LegalWork.{after_all, IsEnd, IsNeeded, First, Then, IsLogResult, no_work, LogEntry}
 use Rattle.plai_theory.proofs.Least.{least_table}
 use Rattle.plai_theory.proofs.Rows.{item_in, in_item}
 use Rattle.plai_theory.proofs.Invariant.{Inv, no_exception, settle, made, woke, evaluate}

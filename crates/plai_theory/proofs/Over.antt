@@ -1,60 +1,14 @@
 -- Evaluations that are over: monotony, and what tables and logs say of it.
-use Rattle.std.proofs.Common.{
-  ◌≡◌,
-  ◌⊎◌,
-  ℕ,
-  zero,
-  ◌+◌,
-  ◌≤◌,
-  true,
-  false,
-  List,
-  [],
-  ◌∷◌,
-  ◌++◌,
-  map,
-  nat_eq,
-  eqb-true,
-  Option,
-  Some,
-  None,
-  sym,
-  refl,
-  ◌∙◌,
-  subst,
-  inl,
-  inr,
-  arith,
-}
+use Rattle.std.proofs.Common.{◌≡◌, ◌⊎◌, ℕ, zero, ◌+◌, ◌≤◌, true, false, List, [], ◌∷◌, ◌++◌, map, nat_eq, eqb-true, Option, Some, None, sym, refl, ◌∙◌, subst}
+use Rattle.std.proofs.Common.{inl, inr, arith}
 use Rattle.plai_theory.specs.Words.{IsIn, UpTo, item, HasSome}
 use Rattle.plai_theory.specs.Domain.{Step, Goal, Do, Domain, Program, IsLawful}
 use Rattle.plai_theory.specs.Evaluation.{Source, NameOf, name_of, calls_along, calls_of}
 use Rattle.plai_theory.specs.Stages.{stage, Reaches, AtEntry, IsFromBelow, IsSettled}
 use Rattle.plai_theory.specs.LeastTable.{Row, Order, IsSnapshot, IsStrictOrder}
 use Rattle.plai_theory.specs.Tables.{source_of, HasName}
-use Rattle.plai_theory.specs.LegalWork.{
-  WorkRow,
-  Work,
-  Made,
-  Woke,
-  Evaluated,
-  Grew,
-  find,
-  present_source,
-  new_row,
-  mentions,
-  after_waking,
-  after_evaluating,
-  after_growing,
-  calls_now,
-  next_answer,
-  after,
-  IsLegal,
-  IsLegalLog,
-  after_all,
-  IsEnd,
-  LogEntry,
-}
+use Rattle.plai_theory.specs.LegalWork.{WorkRow, Work, Made, Woke, Evaluated, Grew, find, present_source, new_row, mentions, after_waking, after_evaluating}
+use Rattle.plai_theory.specs.LegalWork.{after_growing, calls_now, next_answer, after, IsLegal, IsLegalLog, after_all, IsEnd, LogEntry}
 use Rattle.plai_theory.specs.Edits.{IsOpening}
 use Rattle.plai_theory.specs.Limits.{Limits, AreUpwardClosed, IsOverAlong, IsOverAt, IsOver, Fits, AllFit, CleanFit}
 use Rattle.plai_theory.proofs.Options.{in_given, by_test}

@@ -3,26 +3,8 @@ use Rattle.std.proofs.Common.{◌≡◌, ℕ, suc, ◌≤◌, true, false, List,
 use Rattle.plai_theory.specs.Words.{given}
 use Rattle.plai_theory.specs.Domain.{Domain, Program, IsLawful}
 use Rattle.plai_theory.specs.Evaluation.{NameOf}
-use Rattle.plai_theory.specs.LegalWork.{
-  WorkRow,
-  Work,
-  Made,
-  Woke,
-  Evaluated,
-  Grew,
-  find,
-  new_row,
-  after_waking,
-  after_evaluating,
-  after_growing,
-  calls_now,
-  after,
-  live_count,
-  IsLegal,
-  IsLegalLog,
-  after_all,
-  LogEntry,
-}
+use Rattle.plai_theory.specs.LegalWork.{WorkRow, Work, Made, Woke, Evaluated, Grew, find, new_row, after_waking, after_evaluating, after_growing, calls_now}
+use Rattle.plai_theory.specs.LegalWork.{after, live_count, IsLegal, IsLegalLog, after_all, LogEntry}
 use Rattle.plai_theory.specs.Count.{HaveOwnNames}
 use Rattle.plai_theory.proofs.Options.{by_test}
 use Rattle.plai_theory.proofs.Rows.{find_map, find_push}

@@ -11,28 +11,8 @@ use Rattle.plai_words.specs.Taken.{Taken, taken_given}
 use Rattle.plai_words.proofs.Joins.{both_assoc, files, finish, nothing_more, option}
 use Rattle.plai_words.proofs.Rows.{Holds}
 use Rattle.plai_words.proofs.Options.{all_rules}
-use Rattle.plai_words.proofs.Walks.{
-  shape,
-  held_at,
-  walk_at,
-  fault_left,
-  Reads,
-  left_nil,
-  go_on,
-  stop,
-  Pend,
-  pending_as,
-  pend_given,
-  fault_at,
-  rows_at,
-  Settles,
-  fault_is,
-  settle,
-  walked_is,
-  turn_is,
-  gathers,
-  gather_fault,
-}
+use Rattle.plai_words.proofs.Walks.{shape, held_at, walk_at, fault_left, Reads, left_nil, go_on, stop, Pend, pending_as, pend_given, fault_at, rows_at}
+use Rattle.plai_words.proofs.Walks.{Settles, fault_is, settle, walked_is, turn_is, gathers, gather_fault}
 
 -- ---- behind `--`
 

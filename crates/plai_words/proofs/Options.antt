@@ -1,31 +1,6 @@
 -- What clap's rules and our definitions say of the four options, and of texts that name none.
-use Rattle.std.proofs.Common.{
-  ◌≡◌,
-  ◌⊎◌,
-  ℕ,
-  ◌+◌,
-  List,
-  [],
-  ◌∷◌,
-  ◌++◌,
-  Bool,
-  None,
-  Some,
-  true,
-  false,
-  refl,
-  ap,
-  sym,
-  ◌∙◌,
-  subst,
-  inl,
-  inr,
-  length,
-  take,
-  drop,
-  suc,
-  arith,
-}
+use Rattle.std.proofs.Common.{◌≡◌, ◌⊎◌, ℕ, ◌+◌, List, [], ◌∷◌, ◌++◌, Bool, None, Some, true, false, refl, ap, sym, ◌∙◌, subst, inl, inr, length, take, drop}
+use Rattle.std.proofs.Common.{suc, arith}
 use Rattle.std.specs.Prelude.{◌==◌, ◌&&◌, not, nat_eq, nat_lt}
 use Rattle.std.specs.List.{starts_with, before_first, prefix_len}
 use Rattle.std.specs.Str.{bytes_eq}

@@ -11,49 +11,11 @@ use Rattle.plai_words.proofs.Joins.{both_assoc, files, finish, none_more, option
 use Rattle.plai_words.proofs.Rows.{Holds, taker}
 use Rattle.plai_words.proofs.Options.{all_rules, dashes, option_dashed}
 use Rattle.plai_words.proofs.Shapes.{IsPlainWord, IsStray, Word, ends, gives, names, plain, short, stray, word_of}
-use Rattle.plai_words.proofs.Walks.{
-  Reads,
-  Settles,
-  fault_at,
-  fault_is,
-  go_on,
-  held_at,
-  left_nil,
-  met_is,
-  gathers,
-  gather_fault,
-  pend_given,
-  pending_as,
-  rows_at,
-  rows_is,
-  settle,
-  settle_option,
-  shape,
-  stop,
-  turn_is,
-  waiting_at,
-  walk_at,
-  walked_is,
-  word_fault_is,
-}
+use Rattle.plai_words.proofs.Walks.{Reads, Settles, fault_at, fault_is, go_on, held_at, left_nil, met_is, gathers, gather_fault, pend_given, pending_as}
+use Rattle.plai_words.proofs.Walks.{rows_at, rows_is, settle, settle_option, shape, stop, turn_is, waiting_at, walk_at, walked_is, word_fault_is}
 use Rattle.plai_words.proofs.BehindDashes.{at_end, behind_end, doomed, file_joins, no_value_fault, not_nil}
-use Rattle.plai_words.proofs.WordKinds.{
-  Awaits,
-  Open,
-  clear_after,
-  given_dashed,
-  given_ends,
-  given_gives,
-  given_names,
-  given_plain,
-  given_stray,
-  given_value,
-  name_no_end,
-  name_turn,
-  name_walked,
-  no_short,
-  value_no_end,
-}
+use Rattle.plai_words.proofs.WordKinds.{Awaits, Open, clear_after, given_dashed, given_ends, given_gives, given_names, given_plain, given_stray, given_value}
+use Rattle.plai_words.proofs.WordKinds.{name_no_end, name_turn, name_walked, no_short, value_no_end}
 use Rattle.plai_words.proofs.Turns.{value_walked, value_turn, stray_turn, plain_met, plain_fault, plain_at, plain_waits}
 
 right_nil : (a b : Kinds) → or_else a b ≡ [] → b ≡ []

@@ -10,20 +10,8 @@ use Rattle.clap.specs.Lexer.{long_of, name_and_value, short_of}
 use Rattle.clap.specs.Walk.{Text, arg_by_long}
 use Rattle.plai_words.specs.Options.{Key, attached, behind, is_bundle, is_dashed, is_end, is_option, named}
 use Rattle.plai_words.specs.Line.{name_of}
-use Rattle.plai_words.proofs.Options.{
-  all_rules,
-  dashes,
-  flip,
-  both_true,
-  starts_split,
-  is_equals,
-  arg_none,
-  named_none,
-  attached_none,
-  some_key,
-  joined_value,
-  no_long,
-}
+use Rattle.plai_words.proofs.Options.{all_rules, dashes, flip, both_true, starts_split, is_equals, arg_none, named_none, attached_none, some_key}
+use Rattle.plai_words.proofs.Options.{joined_value, no_long}
 
 pub record IsStray (w : Text) : Type 0 where
   pub whole : Text × Option Text

@@ -4,25 +4,8 @@ use Rattle.std.specs.Prelude.{if◌then◌else◌, nat_lt}
 use Rattle.std.specs.Option.{option_map_or}
 use Rattle.clap.specs.Kinds.{or_else}
 use Rattle.clap.specs.Faults.{bundle_fault, long_fault, turn_fault, use_fault, word_fault}
-use Rattle.clap.specs.Walk.{
-  Held,
-  Row,
-  Rule,
-  Step,
-  Text,
-  Waiting,
-  idle,
-  next,
-  option as waits_for,
-  option_word,
-  pending_count,
-  plain_word,
-  short_or_plain,
-  used,
-  value,
-  walked,
-  word_met,
-}
+use Rattle.clap.specs.Walk.{Held, Row, Rule, Step, Text, Waiting, idle, next, option as waits_for, option_word, pending_count, plain_word, short_or_plain}
+use Rattle.clap.specs.Walk.{used, value, walked, word_met}
 use Rattle.clap.specs.declared.error.kind.ErrorKind.TheVariants.{UnknownArgument}
 use Rattle.plai_words.specs.Options.{Key, Domain, Depth, Rows, Make}
 use Rattle.plai_words.specs.Line.{name_of}

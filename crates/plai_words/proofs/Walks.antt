@@ -7,35 +7,9 @@ use Rattle.clap.specs.Lexer.{long_of}
 use Rattle.clap.specs.Kinds.{Kinds, or_else}
 use Rattle.clap.specs.Faults.{flag_word_fault, other_fault, settle_fault, step_fault, turn_fault, use_fault, walk_fault, word_fault}
 use Rattle.clap.specs.Simple.{Shape, new_shape}
-use Rattle.clap.specs.Walk.{
-  Held,
-  Row,
-  Rule,
-  Step,
-  Text,
-  Waiting,
-  Walk,
-  after_step,
-  has_row,
-  idle,
-  is_pending,
-  long_or_other,
-  option as waits_for,
-  positional,
-  pushed,
-  settled,
-  settled_rows,
-  subcommand_met,
-  subcommand_or_other,
-  trailing,
-  used,
-  used_by_id,
-  value,
-  walked,
-  word_met,
-  arg_by_index,
-  to_positional,
-}
+use Rattle.clap.specs.Walk.{Held, Row, Rule, Step, Text, Waiting, Walk, after_step, has_row, idle, is_pending, long_or_other, option as waits_for, positional}
+use Rattle.clap.specs.Walk.{pushed, settled, settled_rows, subcommand_met, subcommand_or_other, trailing, used, used_by_id, value, walked, word_met}
+use Rattle.clap.specs.Walk.{arg_by_index, to_positional}
 use Rattle.clap.specs.declared.error.kind.ErrorKind.TheVariants.{ArgumentConflict}
 use Rattle.plai_words.specs.Given.{Given, both}
 use Rattle.plai_words.specs.Options.{Key}

@@ -15,24 +15,8 @@ use Rattle.plai_words.specs.Taken.{Taken, taken_given}
 use Rattle.plai_words.proofs.Rows.{Holds}
 use Rattle.plai_words.proofs.Options.{all_rules, dashes, by_long}
 use Rattle.plai_words.proofs.Shapes.{IsPlainWord, IsStray, dashed_option}
-use Rattle.plai_words.proofs.Walks.{
-  shape,
-  Waits,
-  held_at,
-  walk_at,
-  Reads,
-  or_nil,
-  Pend,
-  pending_as,
-  pend_given,
-  waiting_at,
-  fault_at,
-  rows_at,
-  met_is,
-  word_fault_is,
-  walked_is,
-  turn_is,
-}
+use Rattle.plai_words.proofs.Walks.{shape, Waits, held_at, walk_at, Reads, or_nil, Pend, pending_as, pend_given, waiting_at, fault_at, rows_at, met_is}
+use Rattle.plai_words.proofs.Walks.{word_fault_is, walked_is, turn_is}
 use Rattle.plai_words.proofs.BehindDashes.{only_files}
 
 -- ---- the words before `--`
