@@ -1,5 +1,6 @@
 -- The parts of a term that was read, and the items of a list.
-use Rattle.std.proofs.Common.{◌≡◌, ◌∙◌, ℕ, Bool, true, false, ◌&&◌, cond, nat_eq, Option, Some, None, List, [], ◌∷◌, map, length, refl, sym, ap, subst, rules}
+use Rattle.std.proofs.Common.{◌||◌, ◌≡◌, ◌∙◌, ℕ, Bool, true, false, ◌&&◌, cond, nat_eq, Option, Some, None, List, [], ◌∷◌, map, length, refl, sym, ap, subst}
+use Rattle.std.proofs.Common.{rules}
 use Rattle.std.proofs.Common.{codes, Bor}
 use Rattle.std.specs.Prelude.{All, nat_lt, option_map, option_and_then}
 use Rattle.std.specs.List.{list_any, list_all, AllByRecursion}
