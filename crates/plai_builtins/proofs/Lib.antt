@@ -1,4 +1,6 @@
 mod Cells
+mod Composed
+mod Constructed
 mod Copied
 mod Demands
 mod Distinct
@@ -10,6 +12,7 @@ mod Meant
 mod Occurring
 pub mod Tables
 mod TermKinds
+mod Tests
 mod Turns
 mod Valued
 mod Variables

@@ -1,136 +1,105 @@
--- What holds of each row of the table of actions holds of what is looked up.
-use Rattle.std.proofs.Common.{◌≡◌, ℕ, ◌≤◌, ◌&&◌, true, false, nat_eq, Bool, lit≤, lit<, eqb-true, List, [], ◌∷◌, length, map, refl, subst, inl, inr, arith}
+-- What a builtin's actions speak of, and small lists of actions.
+use Rattle.std.proofs.Common.{◌≡◌, ℕ, ◌≤◌, ◌<◌, ◌^◌, ◌&&◌, true, false, nat_eq, nat_le, nat_lt, Bool, lit≤, eqb-true, Option, Some, None, List, [], ◌∷◌, length, refl, subst, inl, inr, arith}
+use Rattle.std.specs.List.{list_all}
+use Rattle.std.specs.Option.{is_some}
 use Rattle.std.specs.Cmp.Lexicographic.{pointwise}
-use Rattle.plai_theory.specs.Words.{IsIn}
+use Rattle.std.proofs.lemmas.Bool.Decides.{nat_tests}
+use Rattle.plai_theory.specs.Words.{IsIn, given}
 use Rattle.plai_theory.proofs.Options.{by_test}
 use Rattle.plai_domain.specs.declared.action.Action.{Action}
+use Rattle.plai_domain.specs.declared.action.Action.TheVariants as action
 use Rattle.plai_domain.specs.Instances.{acts_within}
-use Rattle.plai_clauses.specs.Builtins.{is_key, builtins, is_builtin_key}
-use Rattle.plai_builtins.specs.Actions.{Acting, table, actions_in, actions_of}
-use Rattle.plai_builtins.specs.Listed.{listed, small, row_in}
-
--- each action's numbers are those of so many arguments
-abbrev AllWithin : ℕ → List Action → Type 0
-AllWithin arity [] = Unit {0}
-AllWithin arity (x ∷ xs) = acts_within arity x × AllWithin arity xs
-
-pub record IsSoundRow (a : Acting) : Type 0 where
-  pub key : is_builtin_key a.name a.arity ≡ true
-  pub within : AllWithin a.arity a.actions
-  pub few : length a.actions ≤ 3
-
-abbrev AreSoundRows : List Acting → Type 0
-AreSoundRows [] = Unit {0}
-AreSoundRows (a ∷ as') = IsSoundRow a × AreSoundRows as'
+use Rattle.plai_clauses.specs.Builtins.{is_key, builtins, first_of_key, builtin_named, is_builtin_key}
+use Rattle.plai_clauses.specs.declared.builtin.Builtin.{Builtin}
+use Rattle.plai_builtins.specs.Actions.{builtin_actions, actions_of}
+use Rattle.plai_builtins.specs.Listed.{listed, small}
 
 both : (p q : Bool) → (p && q) ≡ true → (p ≡ true) × (q ≡ true)
 both true q e = (refl, e)
 both false q e = cc
 
-sound : AreSoundRows table
-unfolding table builtins
-sound = (
-  record { key = refl; within = (tt, tt); few = lit≤ tt },
-  (
-    record { key = refl; within = ((lit≤ tt, lit≤ tt, lit≤ tt, lit≤ tt), tt); few = lit≤ tt },
-    (
-      record { key = refl; within = ((lit≤ tt, lit≤ tt, lit≤ tt, lit≤ tt), tt); few = lit≤ tt },
-      (
-        record { key = refl; within = ((lit≤ tt, lit≤ tt), tt); few = lit≤ tt },
-        (
-          record { key = refl; within = ((lit≤ tt, lit≤ tt), tt); few = lit≤ tt },
-          (
-            record { key = refl; within = ((lit≤ tt, lit≤ tt), tt); few = lit≤ tt },
-            (
-              record { key = refl; within = ((lit≤ tt, lit≤ tt), tt); few = lit≤ tt },
-              (
-                record { key = refl; within = ((lit≤ tt, lit≤ tt), tt); few = lit≤ tt },
-                (
-                  record { key = refl; within = ((lit≤ tt, lit≤ tt), tt); few = lit≤ tt },
-                  (
-                    record { key = refl; within = ((lit≤ tt, lit≤ tt), tt); few = lit≤ tt },
-                    (
-                      record { key = refl; within = ((lit≤ tt, lit≤ tt), ((lit≤ tt, lit≤ tt), tt)); few = lit≤ tt },
-                      (
-                        record { key = refl; within = ((lit≤ tt, lit≤ tt), ((lit≤ tt, lit≤ tt), tt)); few = lit≤ tt },
-                        (
-                          record { key = refl; within = ((lit≤ tt, lit≤ tt), ((lit≤ tt, lit≤ tt), tt)); few = lit≤ tt },
-                          (
-                            record { key = refl; within = ((lit≤ tt, lit≤ tt), ((lit≤ tt, lit≤ tt), tt)); few = lit≤ tt },
-                            (
-                              record { key = refl; within = ((lit≤ tt, lit≤ tt), ((lit≤ tt, lit≤ tt), tt)); few = lit≤ tt },
-                              (
-                                record { key = refl; within = ((lit≤ tt, lit≤ tt), ((lit≤ tt, lit≤ tt), tt)); few = lit≤ tt },
-                                (
-                                  record { key = refl; within = ((lit≤ tt, lit≤ tt), ((lit≤ tt, lit≤ tt), tt)); few = lit≤ tt },
-                                  (
-                                    record { key = refl; within = ((lit≤ tt, lit≤ tt), ((lit≤ tt, lit≤ tt), (lit< tt, tt))); few = lit≤ tt },
-                                    (
-                                      record { key = refl; within = ((lit≤ tt, lit≤ tt), (lit< tt, tt)); few = lit≤ tt },
-                                      (
-                                        record { key = refl; within = (lit< tt, tt); few = lit≤ tt },
-                                        (
-                                          record { key = refl; within = (lit< tt, tt); few = lit≤ tt },
-                                          tt,
-                                        ),
-                                      ),
-                                    ),
-                                  ),
-                                ),
-                              ),
-                            ),
-                          ),
-                        ),
-                      ),
-                    ),
-                  ),
-                ),
-              ),
-            ),
-          ),
-        ),
-      ),
-    ),
-  ),
-)
+-- what holds of each row of a list holds of what is found in it
+found_passes : (p : ℕ → Builtin → Bool) (rows : List (List ℕ × ℕ × Builtin)) → list_all (λ row. p row.1 row.2) rows ≡ true
+    → (name : List ℕ) (arity : ℕ) (b : Builtin) → first_of_key rows name arity ≡ Some b → p arity b ≡ true
+found_passes p [] h name arity b = λ e. absurd cc
+found_passes p (row ∷ rows) h name arity b =
+    let (here, there) = both (p row.1 row.2) (list_all (λ row. p row.1 row.2) rows) h in
+    by_test (is_key name arity (row.0, row.1))
+    (λ t. rw t (λ e.
+    let is : row.2 ≡ b = cc in
+    let same : row.1 ≡ arity = eqb-true row.1 arity (both (pointwise nat_eq row.0 name) (nat_eq row.1 arity) t).1 in
+    subst (λ c. p arity c ≡ true) is (subst (λ k. p k row.2 ≡ true) same here)))
+    (λ t. rw t (found_passes p rows there name arity b))
 
-sound_row : (rows : List Acting) → AreSoundRows rows → (a : Acting) → IsIn a rows → IsSoundRow a
-sound_row [] h a i = absurd i
-sound_row (b ∷ rows) h a (inl e) = subst IsSoundRow e h.0
-sound_row (b ∷ rows) h a (inr i) = sound_row rows h.1 a i
+-- the action's arguments are among the first m
+abbrev acts_in : ℕ → Action → Bool
+acts_in m action.Fail = true
+acts_in m (action.Unify i j) = nat_le 1 i && nat_le i m && nat_le 1 j && nat_le j m
+acts_in m (action.Same i j) = nat_le 1 i && nat_le i m && nat_le 1 j && nat_le j m
+acts_in m (action.Ground i) = nat_le 1 i && nat_le i m
+acts_in m (action.BindInt i) = nat_le 1 i && nat_le i m
+acts_in m (action.Var i) = nat_le 1 i && nat_le i m
+acts_in m (action.Nonvar i) = nat_le 1 i && nat_le i m
+acts_in m (action.Havoc slots) = nat_lt slots (2 ^ m)
 
-pub key_of_row : (a : Acting) → IsIn a table → is_builtin_key a.name a.arity ≡ true
-key_of_row a i = (sound_row table sound a i).key
+within_at : (m : ℕ) (x : Action) → acts_in m x ≡ true → acts_within m x
+within_at m action.Fail e = tt
+within_at m (action.Unify i j) e = grind arith
+within_at m (action.Same i j) e = grind arith
+within_at m (action.Ground i) e = grind arith
+within_at m (action.BindInt i) e = grind arith
+within_at m (action.Var i) e = grind arith
+within_at m (action.Nonvar i) e = grind arith
+within_at m (action.Havoc slots) e = grind arith
 
-action_in : (arity : ℕ) (xs : List Action) → AllWithin arity xs → (x : Action) → IsIn x xs → acts_within arity x
-action_in arity [] h x i = absurd i
-action_in arity (y ∷ ys) h x (inl e) = subst (acts_within arity) e h.0
-action_in arity (y ∷ ys) h x (inr i) = action_in arity ys h.1 x i
+action_in : (m : ℕ) (xs : List Action) → list_all (acts_in m) xs ≡ true → (x : Action) → IsIn x xs → acts_within m x
+action_in m [] h x i = absurd i
+action_in m (y ∷ ys) h x (inl e) = subst (acts_within m) e (within_at m y (both (acts_in m y) (list_all (acts_in m) ys) h).0)
+action_in m (y ∷ ys) h x (inr i) = action_in m ys (both (acts_in m y) (list_all (acts_in m) ys) h).1 x i
 
-looked_up : (rows : List Acting) → AreSoundRows rows → (name : List ℕ) (arity : ℕ)
-    → AllWithin arity (actions_in rows name arity) × (length (actions_in rows name arity) ≤ 3)
-looked_up [] h name arity = (tt, lit≤ tt)
-looked_up (a ∷ rows) h name arity =
-    by_test (is_key name arity (a.name, a.arity))
-    (λ t. rw t (
-      subst (λ n. AllWithin n a.actions) (eqb-true a.arity arity (both (pointwise nat_eq a.name name) (nat_eq a.arity arity) t).1)
-          h.0.within,
-      h.0.few,
-    ))
-    (λ t. rw t (looked_up rows h.1 name arity))
+-- a builtin of so many arguments has actions of these, at most three
+abbrev fits : ℕ → Builtin → Bool
+fits arity b = nat_le (length (builtin_actions b)) 3 && list_all (acts_in arity) (builtin_actions b)
+
+all_fit : list_all (λ row. fits row.1 row.2) builtins ≡ true
+unfolding builtins
+all_fit = refl
+
+record IsSound (arity : ℕ) (b : Builtin) : Type 0 where
+  few : length (builtin_actions b) ≤ 3
+  within : list_all (acts_in arity) (builtin_actions b) ≡ true
+
+sound : (name : List ℕ) (arity : ℕ) (b : Builtin) → builtin_named name arity ≡ Some b → IsSound arity b
+sound name arity b e =
+    let (first, second) =
+    both (nat_le (length (builtin_actions b)) 3) (list_all (acts_in arity) (builtin_actions b)) (found_passes fits builtins all_fit name arity b e) in
+    record { few = grind (arith, nat_tests); within = second }
+
+-- what is found has actions of so many arguments, at most three
+module _ (arity : ℕ) where
+  found_within : (found : Option Builtin) → ((b : Builtin) → found ≡ Some b → IsSound arity b) → (x : Action)
+      → IsIn x (given [] builtin_actions found) → acts_within arity x
+  found_within None h x i = absurd i
+  found_within (Some b) h x i = action_in arity (builtin_actions b) (h b refl).within x i
+
+  found_few : (found : Option Builtin) → ((b : Builtin) → found ≡ Some b → IsSound arity b) → length (given [] builtin_actions found) ≤ 3
+  found_few None h = lit≤ tt
+  found_few (Some b) h = (h b refl).few
+
+found_there : (found : Option Builtin) (x : Action) → IsIn x (given [] builtin_actions found) → is_some found ≡ true
+found_there None x i = absurd i
+found_there (Some b) x i = refl
+
+pub only_builtins : (name : List ℕ) (arity : ℕ) (x : Action) → IsIn x (actions_of name arity) → is_builtin_key name arity ≡ true
+only_builtins name arity = found_there (builtin_named name arity)
 
 pub actions_within : (name : List ℕ) (arity : ℕ) (x : Action) → IsIn x (actions_of name arity) → acts_within arity x
-actions_within name arity x i = action_in arity (actions_of name arity) (looked_up table sound name arity).0 x i
+actions_within name arity = found_within arity (builtin_named name arity) (sound name arity)
 
 pub actions_few : (name : List ℕ) (arity : ℕ) → length (actions_of name arity) ≤ 3
-actions_few name arity = (looked_up table sound name arity).1
+actions_few name arity = found_few arity (builtin_named name arity) (sound name arity)
 
 -- small lists
-
-pub row_in-small : (rows : List Acting) (name : List ℕ) (arity : ℕ)
-    → row_in (map (λ a. (a.name, a.arity, small a.actions)) rows) name arity ≡ small (actions_in rows name arity)
-row_in-small [] name arity = refl
-row_in-small (a ∷ rows) name arity = by_test (is_key name arity (a.name, a.arity)) (λ t. rw t refl) (λ t. rw t (row_in-small rows name arity))
 
 listed-small : (xs : List Action) → length xs ≤ 3 → listed (small xs) ≡ xs
 listed-small [] h = refl

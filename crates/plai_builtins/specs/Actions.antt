@@ -1,49 +1,47 @@
 -- What the builtin predicates do to a state: their actions in turn (ISO/IEC 13211-1:1995, 8 and 9, for what they do).
-use Rattle.std.specs.Prelude.{ℕ, ◌+◌, List, [], ◌∷◌, if◌then◌else◌, codes}
+use Rattle.std.specs.Prelude.{ℕ, ◌+◌, List, [], ◌∷◌}
+use Rattle.plai_theory.specs.Words.{given}
 use Rattle.plai_base.specs.Mask.{mask_of}
 use Rattle.plai_domain.specs.declared.action.Action.{Action}
 use Rattle.plai_domain.specs.declared.action.Action.TheVariants.{Fail, Unify, Same, Ground, BindInt, Var, Nonvar, Havoc}
-use Rattle.plai_clauses.specs.Builtins.{is_key}
+use Rattle.plai_clauses.specs.Builtins.{builtin_named}
+use Rattle.plai_clauses.specs.declared.builtin.Builtin.{Builtin}
+use Rattle.plai_clauses.specs.declared.builtin.Builtin.TheVariants as builtin
 
--- a key with its actions
-pub record Acting : Type 0 where
-  pub name : List ℕ
-  pub arity : ℕ
-  pub actions : List Action
+-- A builtin's actions. One with none does nothing to a state. An argument's slot is one less than its number.
+abbrev pub builtin_actions : Builtin → List Action
+builtin_actions builtin.True = []
+builtin_actions builtin.Cut = []
+builtin_actions builtin.NewLine = []
+builtin_actions builtin.Write = []
+builtin_actions builtin.Fail = Fail ∷ []
+builtin_actions builtin.Unify = Unify 1 2 ∷ []
+builtin_actions builtin.NotUnify = []
+builtin_actions builtin.Same = Same 1 2 ∷ []
+builtin_actions builtin.NotSame = []
+builtin_actions builtin.TermLess = []
+builtin_actions builtin.TermLessOrSame = []
+builtin_actions builtin.TermGreater = []
+builtin_actions builtin.TermGreaterOrSame = []
+builtin_actions builtin.Var = Var 1 ∷ []
+builtin_actions builtin.Nonvar = Nonvar 1 ∷ []
+builtin_actions builtin.Atom = Ground 1 ∷ []
+builtin_actions builtin.Atomic = Ground 1 ∷ []
+builtin_actions builtin.Ground = Ground 1 ∷ []
+builtin_actions builtin.Integer = BindInt 1 ∷ []
+builtin_actions builtin.Compound = Nonvar 1 ∷ []
+builtin_actions builtin.Is = Ground 2 ∷ BindInt 1 ∷ []
+builtin_actions builtin.ValuesEqual = Ground 1 ∷ Ground 2 ∷ []
+builtin_actions builtin.ValuesDiffer = Ground 1 ∷ Ground 2 ∷ []
+builtin_actions builtin.ValueLess = Ground 1 ∷ Ground 2 ∷ []
+builtin_actions builtin.ValueLessOrEqual = Ground 1 ∷ Ground 2 ∷ []
+builtin_actions builtin.ValueGreater = Ground 1 ∷ Ground 2 ∷ []
+builtin_actions builtin.ValueGreaterOrEqual = Ground 1 ∷ Ground 2 ∷ []
+builtin_actions builtin.Functor = Ground 2 ∷ BindInt 3 ∷ Havoc (mask_of 0) ∷ []
+builtin_actions builtin.Arg = BindInt 1 ∷ Havoc (mask_of 1 + mask_of 2) ∷ []
+builtin_actions builtin.Univ = Havoc (mask_of 0 + mask_of 1) ∷ []
+builtin_actions builtin.CopyTerm = Havoc (mask_of 1) ∷ []
 
-abbrev pub acting : List ℕ → ℕ → List Action → Acting
-acting name arity actions = record { name = name; arity = arity; actions = actions }
-
--- The builtins with actions; the others do nothing to a state. An argument's slot is one less than its number.
-unfoldable pub table : List Acting
-table =
-    acting (codes "fail") 0 (Fail ∷ [])
-    ∷ acting (codes "=") 2 (Unify 1 2 ∷ [])
-    ∷ acting (codes "==") 2 (Same 1 2 ∷ [])
-    ∷ acting (codes "var") 1 (Var 1 ∷ [])
-    ∷ acting (codes "nonvar") 1 (Nonvar 1 ∷ [])
-    ∷ acting (codes "atom") 1 (Ground 1 ∷ [])
-    ∷ acting (codes "atomic") 1 (Ground 1 ∷ [])
-    ∷ acting (codes "ground") 1 (Ground 1 ∷ [])
-    ∷ acting (codes "integer") 1 (BindInt 1 ∷ [])
-    ∷ acting (codes "compound") 1 (Nonvar 1 ∷ [])
-    ∷ acting (codes "is") 2 (Ground 2 ∷ BindInt 1 ∷ [])
-    ∷ acting (codes "=:=") 2 (Ground 1 ∷ Ground 2 ∷ [])
-    ∷ acting (codes "=\\=") 2 (Ground 1 ∷ Ground 2 ∷ [])
-    ∷ acting (codes "<") 2 (Ground 1 ∷ Ground 2 ∷ [])
-    ∷ acting (codes "=<") 2 (Ground 1 ∷ Ground 2 ∷ [])
-    ∷ acting (codes ">") 2 (Ground 1 ∷ Ground 2 ∷ [])
-    ∷ acting (codes ">=") 2 (Ground 1 ∷ Ground 2 ∷ [])
-    ∷ acting (codes "functor") 3 (Ground 2 ∷ BindInt 3 ∷ Havoc (mask_of 0) ∷ [])
-    ∷ acting (codes "arg") 3 (BindInt 1 ∷ Havoc (mask_of 1 + mask_of 2) ∷ [])
-    ∷ acting (codes "=..") 2 (Havoc (mask_of 0 + mask_of 1) ∷ [])
-    ∷ acting (codes "copy_term") 2 (Havoc (mask_of 1) ∷ [])
-    ∷ []
-
-abbrev pub actions_in : List Acting → List ℕ → ℕ → List Action
-actions_in [] name arity = []
-actions_in (a ∷ as') name arity = if is_key name arity (a.name, a.arity) then a.actions else actions_in as' name arity
-
--- the actions of a builtin
+-- the actions of the builtin of this name and number of arguments; what is no builtin has none
 abbrev pub actions_of : List ℕ → ℕ → List Action
-actions_of = actions_in table
+actions_of name arity = given [] builtin_actions (builtin_named name arity)

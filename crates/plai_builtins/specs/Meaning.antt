@@ -1,7 +1,6 @@
 -- What the builtin predicates mean (ISO/IEC 13211-1:1995, 8 and 9, without their errors): what each asks of its arguments, and
 -- the substitution that meets it. Where one thing is to unify with another, the one named first stands on the left.
-use Rattle.std.specs.Prelude.{◌≡◌, ℕ, zero, suc, ℤ, pos, Bool, true, false, not, ◌||◌, cond, nat_eq, nat_le, Option, Some, None, option_map, List, [], ◌∷◌, filter, length, codes, if◌then◌else◌}
-use Rattle.std.specs.Cmp.Lexicographic.{pointwise}
+use Rattle.std.specs.Prelude.{◌≡◌, ℕ, zero, suc, ℤ, pos, Bool, true, false, not, ◌||◌, cond, nat_le, Option, Some, None, option_map, List, [], ◌∷◌, filter, length, if◌then◌else◌}
 use Rattle.plai_theory.specs.Words.{given, item}
 use Rattle.plai_terms.specs.Term.{is_ground, occurs}
 use Rattle.plai_terms.specs.Unification.{Bindings, UnifiesTo}
@@ -10,9 +9,12 @@ use Rattle.plai_terms.specs.declared.term.Term.TheOpen.{Term-F}
 use Rattle.plai_terms.specs.declared.outcome.Outcome.{Outcome}
 use Rattle.plai_terms.specs.declared.outcome.Outcome.TheVariants.{Unified, Clash, Occurs}
 use Rattle.plai_values.specs.declared.comparison.Comparison.{Comparison}
-use Rattle.plai_values.specs.Functors.{comparison_named, term_comparison_named}
+use Rattle.plai_values.specs.declared.comparison.Comparison.TheVariants.{Eq, Ne, Lt, Le, Gt, Ge}
 use Rattle.plai_values.specs.Values.{value_of, compares}
 use Rattle.plai_values.specs.TermOrder.{compares_terms}
+use Rattle.plai_clauses.specs.Builtins.{builtin_named}
+use Rattle.plai_clauses.specs.declared.builtin.Builtin.{Builtin}
+use Rattle.plai_clauses.specs.declared.builtin.Builtin.TheVariants as builtin
 use Rattle.plai_builtins.specs.Lists.{list_of, list_items}
 use Rattle.plai_builtins.specs.Copies.{copy_of}
 
@@ -134,62 +136,72 @@ abbrev pub compared : Comparison → Option ℤ → Option ℤ → Bool
 compared c (Some x) (Some y) = compares c x y
 compared c _ _ = false
 
-abbrev pub is_named : List ℕ → List ℕ → Bool
-is_named name text = pointwise nat_eq name text
+abbrev pub value_test : Comparison → Term → Term → Demand
+value_test c l r = Test (compared c (value_of l) (value_of r))
 
--- of no argument; `fail` never holds
-abbrev pub nullary : List ℕ → Demand
-nullary name =
-    if is_named name (codes "true") then Test true
-    else if is_named name (codes "!") then Test true
-    else if is_named name (codes "nl") then Test true
-    else Never
+-- a comparison of two terms in their standard order (8.4)
+abbrev pub term_test : Comparison → Term → Term → Demand
+term_test c l r = Test (compares_terms c l r)
 
--- of one argument
-abbrev pub unary : List ℕ → Term → Demand
-unary name t =
-    if is_named name (codes "write") then Test true
-    else if is_named name (codes "var") then Test (is_variable (out-Term t))
-    else if is_named name (codes "nonvar") then Test (not (is_variable (out-Term t)))
-    else if is_named name (codes "atom") then Test (is_atom (out-Term t))
-    else if is_named name (codes "atomic") then Test (is_atom (out-Term t) || is_integer (out-Term t))
-    else if is_named name (codes "ground") then Test (is_ground t)
-    else if is_named name (codes "integer") then Test (is_integer (out-Term t))
-    else if is_named name (codes "compound") then Test (is_compound (out-Term t))
-    else Never
+-- what is asked of no argument, of one, of two and of three; of any other number what never holds
+abbrev pub of_none : Demand → List Term → Demand
+of_none d [] = d
+of_none d (_ ∷ _) = Never
 
--- of two arguments, but for comparisons: for `X is E` the value of E unifies with X, and for `copy_term(T,C)` C unifies with a
--- copy of T, and only variables of C are bound
-abbrev pub binary : ℕ → List ℕ → Term → Term → Demand
-binary fresh name l r =
-    if is_named name (codes "=") then Solve (l ∷ []) (r ∷ [])
-    else if is_named name (codes "\\=") then Apart l r
-    else if is_named name (codes "is") then given Never (λ n. Solve (Int n ∷ []) (l ∷ [])) (value_of r)
-    else if is_named name (codes "=..") then univ_at l r (out-Term l)
-    else if is_named name (codes "copy_term") then SolveWithin r (copy_of fresh l)
-    else Never
+abbrev pub of_one : (Term → Demand) → List Term → Demand
+of_one d (x ∷ []) = d x
+of_one d _ = Never
 
--- a comparison of two terms in their standard order (8.4), one of their values (8.7), or what else is asked
-abbrev pub comparison_or : Demand → List ℕ → Term → Term → Demand
-comparison_or other name l r =
-    given (given other (λ c. Test (compared c (value_of l) (value_of r))) (comparison_named name))
-    (λ c. Test (compares_terms c l r)) (term_comparison_named name)
+abbrev pub of_two : (Term → Term → Demand) → List Term → Demand
+of_two d (x ∷ y ∷ []) = d x y
+of_two d _ = Never
 
--- of three arguments
-abbrev pub ternary : ℕ → List ℕ → Term → Term → Term → Demand
-ternary fresh name x y z =
-    if is_named name (codes "functor") then functor_at fresh x y z (out-Term x)
-    else if is_named name (codes "arg") then arg_at x z (out-Term y)
-    else Never
+abbrev pub of_three : (Term → Term → Term → Demand) → List Term → Demand
+of_three d (x ∷ y ∷ z ∷ []) = d x y z
+of_three d _ = Never
 
--- What the builtin of this name and these arguments asks; new variables are numbered from `fresh` on. What is no builtin asks
--- what never holds.
+-- What a builtin asks of its arguments; new variables are numbered from `fresh` on. `fail` never holds. For `X is E` the value of
+-- E unifies with X, and for `copy_term(T,C)` C unifies with a copy of T, and only variables of C are bound.
+abbrev pub builtin_demand : Builtin → List Term → ℕ → Demand
+builtin_demand builtin.True args fresh = of_none (Test true) args
+builtin_demand builtin.Cut args fresh = of_none (Test true) args
+builtin_demand builtin.NewLine args fresh = of_none (Test true) args
+builtin_demand builtin.Write args fresh = of_one (λ t. Test true) args
+builtin_demand builtin.Fail args fresh = of_none Never args
+builtin_demand builtin.Unify args fresh = of_two (λ l r. Solve (l ∷ []) (r ∷ [])) args
+builtin_demand builtin.NotUnify args fresh = of_two Apart args
+builtin_demand builtin.Same args fresh = of_two (term_test Eq) args
+builtin_demand builtin.NotSame args fresh = of_two (term_test Ne) args
+builtin_demand builtin.TermLess args fresh = of_two (term_test Lt) args
+builtin_demand builtin.TermLessOrSame args fresh = of_two (term_test Le) args
+builtin_demand builtin.TermGreater args fresh = of_two (term_test Gt) args
+builtin_demand builtin.TermGreaterOrSame args fresh = of_two (term_test Ge) args
+builtin_demand builtin.Var args fresh = of_one (λ t. Test (is_variable (out-Term t))) args
+builtin_demand builtin.Nonvar args fresh = of_one (λ t. Test (not (is_variable (out-Term t)))) args
+builtin_demand builtin.Atom args fresh = of_one (λ t. Test (is_atom (out-Term t))) args
+builtin_demand builtin.Atomic args fresh = of_one (λ t. Test (is_atom (out-Term t) || is_integer (out-Term t))) args
+builtin_demand builtin.Ground args fresh = of_one (λ t. Test (is_ground t)) args
+builtin_demand builtin.Integer args fresh = of_one (λ t. Test (is_integer (out-Term t))) args
+builtin_demand builtin.Compound args fresh = of_one (λ t. Test (is_compound (out-Term t))) args
+builtin_demand builtin.Is args fresh = of_two (λ x e. given Never (λ n. Solve (Int n ∷ []) (x ∷ [])) (value_of e)) args
+builtin_demand builtin.ValuesEqual args fresh = of_two (value_test Eq) args
+builtin_demand builtin.ValuesDiffer args fresh = of_two (value_test Ne) args
+builtin_demand builtin.ValueLess args fresh = of_two (value_test Lt) args
+builtin_demand builtin.ValueLessOrEqual args fresh = of_two (value_test Le) args
+builtin_demand builtin.ValueGreater args fresh = of_two (value_test Gt) args
+builtin_demand builtin.ValueGreaterOrEqual args fresh = of_two (value_test Ge) args
+builtin_demand builtin.Functor args fresh = of_three (λ t n a. functor_at fresh t n a (out-Term t)) args
+builtin_demand builtin.Arg args fresh = of_three (λ n t a. arg_at n a (out-Term t)) args
+builtin_demand builtin.Univ args fresh = of_two (λ t l. univ_at t l (out-Term t)) args
+builtin_demand builtin.CopyTerm args fresh = of_two (λ t c. SolveWithin c (copy_of fresh t)) args
+
+-- what is asked where there is a builtin, and else what never holds
+abbrev pub asked_by : Option Builtin → List Term → ℕ → Demand
+asked_by found args fresh = given Never (λ b. builtin_demand b args fresh) found
+
+-- what the builtin of this name and these arguments asks
 abbrev pub demand_of : List ℕ → List Term → ℕ → Demand
-demand_of name [] fresh = nullary name
-demand_of name (x ∷ []) fresh = unary name x
-demand_of name (x ∷ y ∷ []) fresh = comparison_or (binary fresh name x y) name x y
-demand_of name (x ∷ y ∷ z ∷ []) fresh = ternary fresh name x y z
-demand_of name _ fresh = Never
+demand_of name args fresh = asked_by (builtin_named name (length args)) args fresh
 
 -- The meaning of a builtin: for a name, arguments and the number of the first new variable, a substitution or none.
 abbrev pub Means : List ℕ → List Term → ℕ → Option Bindings → Type 0

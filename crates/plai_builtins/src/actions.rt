@@ -1,10 +1,11 @@
-ghost use Rattle.std.specs.Prelude.{◌≡◌, [], ◌∷◌, map, Some, None, if◌then◌else◌};
+ghost use Rattle.std.specs.Prelude.{◌≡◌, [], ◌∷◌, Some, None, if◌then◌else◌};
+ghost use Rattle.plai_domain.specs.declared.action.Action.TheVariants.{Ground};
 ghost use Rattle.plai_clauses.specs.Builtins.{is_builtin_key};
 ghost use Rattle.plai_builtins.specs.Actions as specs;
-ghost use Rattle.plai_builtins.specs.Listed.{listed, small, row_in};
+ghost use Rattle.plai_builtins.specs.Listed.{listed, small};
 
 use plai_base::Mask;
-use plai_clauses::is_builtin;
+use plai_clauses::Builtin;
 use plai_domain::Action;
 use plai_terms::Name;
 
@@ -57,6 +58,12 @@ fn two(first: Action, second: Action) -> Actions
     }
 }
 
+fn both_ground() -> Actions
+    ensures { result ≡ small (Ground 1 ∷ Ground 2 ∷ []) }
+{
+    two(Action::Ground(1), Action::Ground(2))
+}
+
 fn three(first: Action, second: Action, third: Action) -> Actions
     ensures { result ≡ small (first ∷ second ∷ third ∷ []) }
 {
@@ -66,60 +73,48 @@ fn three(first: Action, second: Action, third: Action) -> Actions
     }
 }
 
-/// The actions of the first row with this name and number of arguments.
-fn actions_in(rows: &[(&str, u32, Actions)], name: &[u8], arity: u32) -> Actions
-    ensures { result ≡ row_in (map (λ row. (row.0.now, row.1, row.2)) rows.now) name.now arity }
+/// What a builtin does to a state: its actions in turn.
+fn builtin_actions(builtin: Builtin) -> Actions
+    ensures { result ≡ small (specs.builtin_actions builtin) }
 {
-    for row in rows {
-        if row.0.as_bytes() == name && row.1 == arity {
-            return row.2;
-        }
+    match builtin {
+        Builtin::True | Builtin::Cut | Builtin::NewLine | Builtin::Write => none(),
+        Builtin::Fail => one(Action::Fail),
+        Builtin::Unify => one(Action::Unify(1, 2)),
+        Builtin::Same => one(Action::Same(1, 2)),
+        Builtin::NotUnify | Builtin::NotSame => none(),
+        Builtin::TermLess | Builtin::TermLessOrSame => none(),
+        Builtin::TermGreater | Builtin::TermGreaterOrSame => none(),
+        Builtin::Var => one(Action::Var(1)),
+        Builtin::Nonvar | Builtin::Compound => one(Action::Nonvar(1)),
+        Builtin::Atom | Builtin::Atomic | Builtin::Ground => one(Action::Ground(1)),
+        Builtin::Integer => one(Action::BindInt(1)),
+        Builtin::Is => two(Action::Ground(2), Action::BindInt(1)),
+        Builtin::ValuesEqual | Builtin::ValuesDiffer => both_ground(),
+        Builtin::ValueLess | Builtin::ValueLessOrEqual => both_ground(),
+        Builtin::ValueGreater | Builtin::ValueGreaterOrEqual => both_ground(),
+        Builtin::Functor => three(
+            Action::Ground(2),
+            Action::BindInt(3),
+            Action::Havoc(Mask::from_bits(1)),
+        ),
+        Builtin::Arg => two(Action::BindInt(1), Action::Havoc(Mask::from_bits(6))),
+        Builtin::Univ => one(Action::Havoc(Mask::from_bits(3))),
+        Builtin::CopyTerm => one(Action::Havoc(Mask::from_bits(2))),
     }
-    none()
 }
 
 /// What a builtin does to a state: its actions in turn, none where the name with that number of arguments is no builtin.
 /// It takes no memory.
+#[tactic(auto, using(crate::proofs::Tables::listed_actions))]
 pub fn actions_of(name: &Name, arity: u32) -> Actions
     ensures exact { result ≡ small (specs.actions_of name.now arity) }
     ensures actions { listed result ≡ specs.actions_of name.now arity }
 {
-    let rows: [(&str, u32, Actions); 21] = [
-        ("fail", 0, one(Action::Fail)),
-        ("=", 2, one(Action::Unify(1, 2))),
-        ("==", 2, one(Action::Same(1, 2))),
-        ("var", 1, one(Action::Var(1))),
-        ("nonvar", 1, one(Action::Nonvar(1))),
-        ("atom", 1, one(Action::Ground(1))),
-        ("atomic", 1, one(Action::Ground(1))),
-        ("ground", 1, one(Action::Ground(1))),
-        ("integer", 1, one(Action::BindInt(1))),
-        ("compound", 1, one(Action::Nonvar(1))),
-        ("is", 2, two(Action::Ground(2), Action::BindInt(1))),
-        ("=:=", 2, two(Action::Ground(1), Action::Ground(2))),
-        ("=\\=", 2, two(Action::Ground(1), Action::Ground(2))),
-        ("<", 2, two(Action::Ground(1), Action::Ground(2))),
-        ("=<", 2, two(Action::Ground(1), Action::Ground(2))),
-        (">", 2, two(Action::Ground(1), Action::Ground(2))),
-        (">=", 2, two(Action::Ground(1), Action::Ground(2))),
-        (
-            "functor",
-            3,
-            three(
-                Action::Ground(2),
-                Action::BindInt(3),
-                Action::Havoc(Mask::from_bits(1)),
-            ),
-        ),
-        (
-            "arg",
-            3,
-            two(Action::BindInt(1), Action::Havoc(Mask::from_bits(6))),
-        ),
-        ("=..", 2, one(Action::Havoc(Mask::from_bits(3)))),
-        ("copy_term", 2, one(Action::Havoc(Mask::from_bits(2)))),
-    ];
-    actions_in(rows.as_slice(), name.as_slice(), arity)
+    match Builtin::named(name, arity) {
+        Some(builtin) => builtin_actions(builtin),
+        None => none(),
+    }
 }
 
 /// What a builtin does to a state: its actions in turn. `None` exactly where the name with that number of arguments is no
@@ -127,44 +122,8 @@ pub fn actions_of(name: &Name, arity: u32) -> Actions
 pub fn table(name: &Name, arity: u32) -> Option<Actions>
     ensures { result ≡ (if is_builtin_key name.now arity then Some (small (specs.actions_of name.now arity)) else None) }
 {
-    if is_builtin(name, arity) {
-        Some(actions_of(name, arity))
-    } else {
-        None
-    }
-}
-
-#[cfg(test)]
-mod tests {
-    use super::*;
-    use std::test::Fail;
-
-    #[test]
-    fn actions_are_those_of_the_builtins(rt: HostRuntime) -> Result<(), Fail> {
-        let none: &[Action] = &[];
-        let last = Action::Havoc(Mask::empty().insert(0));
-        for (text, arity, wanted) in [
-            ("nl", 0, Some(none)),
-            (
-                "is",
-                2,
-                Some([Action::Ground(2), Action::BindInt(1)].as_slice()),
-            ),
-            (
-                "functor",
-                3,
-                Some([Action::Ground(2), Action::BindInt(3), last].as_slice()),
-            ),
-            ("is", 3, None),
-            ("p", 0, None),
-        ] {
-            let name = Name::new(Vec::from_slice(rt.alloc(), text.as_bytes())?);
-            match (table(&name, arity), wanted) {
-                (None, None) => {}
-                (Some(found), Some(actions)) => assert_eq!(rt; found.as_slice(), actions),
-                _ => assert!(rt; false, "{text} of {arity}"),
-            }
-        }
-        Ok(())
+    match Builtin::named(name, arity) {
+        Some(builtin) => Some(builtin_actions(builtin)),
+        None => None,
     }
 }

@@ -7,14 +7,14 @@ ghost use Rattle.plai_terms.specs.Unification.{Bindings};
 ghost use Rattle.plai_domain.specs.declared.action.Action.{Action};
 ghost use Rattle.plai_domain.specs.Instances.{acts_within};
 ghost use Rattle.plai_clauses.specs.Builtins.{is_builtin_key};
-ghost use Rattle.plai_builtins.specs.Actions.{Acting, table, actions_of};
+ghost use Rattle.plai_builtins.specs.Actions.{actions_of};
 ghost use Rattle.plai_builtins.specs.InTurn.{AllowedInTurn};
 ghost use Rattle.plai_builtins.specs.Meaning.{Means};
 
-/// What holds of the table of actions.
+/// What holds of the builtins' actions.
 pub fn table_laws()
-    // Its keys are builtins.
-    ensures keys { (acting : Acting) → IsIn acting table → is_builtin_key acting.name acting.arity ≡ true }
+    // What has actions is a builtin.
+    ensures keys { (name : List ℕ) (arity : ℕ) (action : Action) → IsIn action (actions_of name arity) → is_builtin_key name arity ≡ true }
 
     // An action's numbers are those of the literal's arguments, and no builtin has more than three actions.
     ensures within { (name : List ℕ) (arity : ℕ) (action : Action) → IsIn action (actions_of name arity) → acts_within arity action }
