@@ -1,5 +1,5 @@
 -- What is lost by the arcs of a table is what chains of calls lead from to a predicate that lost a clause.
-use Rattle.std.proofs.Common.{◌≡◌, ◌↔◌, ℕ, zero, suc, Bool, true, List, Option, Some, None, IsSome, sym, refl, ◌∙◌, subst}
+use Rattle.std.proofs.Common.{◌≡◌, ℕ, zero, suc, Bool, true, List, Option, Some, None, IsSome, sym, refl, ◌∙◌, subst}
 use Rattle.plai_theory.specs.Words.{IsIn, HasSome, item}
 use Rattle.plai_theory.specs.Domain.{Domain, Program}
 use Rattle.plai_theory.specs.Evaluation.{Source, NameOf, calls_of}
@@ -88,8 +88,7 @@ module _ (d : Domain) (old : Program d) (order : Order d) (rows : List (Row d)) 
       let (q, f, own) = row_of_name d k.rows n call.caller call.named in
       let one : r ≡ q = cc in
       let is : call.caller ≡ x = subst (λ (z : KeptRow d). call.caller ≡ z.name) (sym one) (sym own) ∙ same in
-      let (y, leads, none) = lost_leads new m l call.called call.is_called in
-      (
+      let (y, leads, none) = lost_leads new m l call.called call.is_called in (
         y,
         leads_from d old (source_of d rows) x call.clause
             (subst (λ (z : NameOf d). IsIn call.clause (old.clauses z.pred)) is (clause_in d old call.caller.pred i call.clause call.is_clause))

@@ -10,3 +10,4 @@ pub mod Leads
 pub mod Opens
 pub mod Gains
 pub mod Slept
+pub mod Cut

@@ -176,8 +176,7 @@ module _ (d : Domain) (old new : Program d) (laws : IsLawful d old) (order : Ord
       let (b, named) = w.whole x kept.0 in
       let (r, e, same) = row_of_name d k.rows b x named in
       let (n, h) = c.whole b (there (item k.rows b) r e) (kept_not_lost d old order rows k w closed new b x named kept) in
-      let at : item opened n ≡ Some (work_row (asleep d r)) = item_map work_row cut.rows n ∙ ap (given None (λ x. Some (work_row x))) (stays n b r h e) in
-      (
+      let at : item opened n ≡ Some (work_row (asleep d r)) = item_map work_row cut.rows n ∙ ap (given None (λ x. Some (work_row x))) (stays n b r h e) in (
         work_row (asleep d r),
         subst (λ (y : NameOf d). find d opened y ≡ Some (work_row (asleep d r))) same (found_at d old laws opened own n (work_row (asleep d r)) at),
       )

@@ -1,5 +1,5 @@
 -- Rows that are made dormant, one after another.
-use Rattle.std.proofs.Common.{◌≡◌, ℕ, zero, suc, ◌+◌, ◌<◌, ◌≤◌, false, List, [], ◌∷◌, map, length, slice_get, Option, Some, None, sym, refl, ap, ◌∙◌, arith}
+use Rattle.std.proofs.Common.{◌≡◌, ℕ, zero, suc, ◌≤◌, false, List, [], ◌∷◌, map, length, slice_get, Some, sym, refl, ap, arith}
 use Rattle.plai_table.specs.Rows.{TableRow, row_changed, with_live, with_entry}
 use Rattle.plai_repair.specs.Opened.{slept, AreAsleep}
 

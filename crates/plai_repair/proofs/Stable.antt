@@ -1,9 +1,8 @@
 -- Whether a list of clauses begins another one is decided.
-use Rattle.std.proofs.Common.{◌≡◌, ◌↔◌, Bool, true, false, ◌&&◌, nat_eq, List, ◌++◌, length, take, drop, refl, ap}
+use Rattle.std.proofs.Common.{◌≡◌, ◌↔◌, Bool, true, false, ◌&&◌, nat_eq, List, length, take, drop, refl, ap}
 use Rattle.std.specs.Cmp.Lexicographic.{pointwise, pointwise_decides}
 use Rattle.std.proofs.lemmas.Slice.Eq.{starts_is}
 use Rattle.plai_theory.proofs.Options.{by_test}
-use Rattle.plai_terms.specs.declared.pred_key.PredKey.{PredKey}
 use Rattle.plai_terms.specs.contracts.pred_key.PredKeyPartialEq.TheImpl as key_eq
 use Rattle.plai_terms.proofs.SameNames.{name-Decides, key-Decides}
 use Rattle.plai_terms.proofs.SameTerms.{same_term, term-Decides}

@@ -1,5 +1,5 @@
 -- How a table and its arcs are opened after an edit (Hermenegildo, Puebla, Marriott and Stuckey 2000).
-use Rattle.std.specs.Prelude.{◌≡◌, ℕ, zero, suc, false, List, [], ◌∷◌, None, Some, slice_get}
+use Rattle.std.specs.Prelude.{◌≡◌, ℕ, false, List, None, Some, slice_get}
 use Rattle.plai_theory.specs.LeastTable.{Row}
 use Rattle.plai_theory.specs.LegalWork.{WorkRow}
 use Rattle.plai_theory.specs.Edits.{IsOpening}

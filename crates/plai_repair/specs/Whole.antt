@@ -1,6 +1,6 @@
 -- The least table of a program as a table and its arcs keep it behind an edit (Hermenegildo, Puebla, Marriott and Stuckey
 -- 2000). Rows are numbered from 0, as in the table, and clauses from 1.
-use Rattle.std.specs.Prelude.{◌≡◌, ◌↔◌, ℕ, Bool, true, false, List, Some, IsSome}
+use Rattle.std.specs.Prelude.{◌≡◌, ◌↔◌, ℕ, true, false, List, Some, IsSome}
 use Rattle.plai_theory.specs.Words.{IsIn, HasSome, item}
 use Rattle.plai_theory.specs.Domain.{Domain, Program}
 use Rattle.plai_theory.specs.Evaluation.{NameOf, calls_of}
