@@ -5,3 +5,9 @@ pub mod Spread
 pub mod Lists
 pub mod Renumbered
 pub mod Removed
+pub mod Stable
+pub mod Leads
+pub mod Opens
+pub mod Gains
+pub mod Slept
+pub mod Cut

@@ -56,7 +56,7 @@ module _ (calls : ℕ → ℕ → ℕ → Bool) where
   spreads_in s n (Itself e) = s.first n e
   spreads_in {loses} {size} {marks} {rows} s n (ByCall m i r e) = let (k, h, f) = place_in rows m (spreads_in s m r) in s.closed k m i n h f e
 
-  lost_as : {one two : ℕ → Type 0} → ((j : ℕ) → one j → two j) → (n : ℕ) → IsLost one calls n → IsLost two calls n
+  pub lost_as : {one two : ℕ → Type 0} → ((j : ℕ) → one j → two j) → (n : ℕ) → IsLost one calls n → IsLost two calls n
   lost_as to n (Itself e) = Itself (to n e)
   lost_as to n (ByCall m i r e) = ByCall m i (lost_as to m r) e
 

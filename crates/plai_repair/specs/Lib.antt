@@ -1,3 +1,6 @@
 pub mod Lost
 pub mod Gathering
 pub mod Removal
+pub mod Gained
+pub mod Whole
+pub mod Opened
