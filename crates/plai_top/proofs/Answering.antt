@@ -13,7 +13,7 @@ use Rattle.plai_session.specs.declared.answer.EditAnswer.{EditAnswer}
 use Rattle.plai_session.specs.declared.answer.EditAnswer.TheVariants as answer
 use Rattle.plai_terms.specs.declared.row_name.RowName.{RowName}
 use Rattle.plai_top.specs.Blocks.{table_of, refused, stopped, rows_text, cause_text, limit_text, text_of, is_table_of, many_rows, large_sets, is_refused}
-use Rattle.plai_top.specs.Working.{Span, IsIdle, IsWorkCutOff, IsLastWorked, is_cut_off, is_unwritten}
+use Rattle.plai_top.specs.Working.{Span, IsIdle, IsWorkCutOff, is_cut_off, is_unwritten}
 use Rattle.plai_top.specs.Writing.{IsAnswerFor, HasBlock, IsBlockText, WritesBlock, WritesRefused, shows_table}
 use Rattle.plai_top.specs.declared.form.Form.{Form}
 use Rattle.plai_top.specs.declared.stop.Stop.{Stop}

@@ -1,5 +1,5 @@
 -- The blocks of items that are carried out one by one, and the first block.
-use Rattle.std.proofs.Common.{◌≡◌, ℕ, ◌+◌, Bool, true, false, ◌&&◌, cond, ◌<◌, ◌≤◌, List, [], ◌∷◌, Result, Ok, Err, IfOk, length, drop, get_or, sym, ◌∙◌, ap, subst}
+use Rattle.std.proofs.Common.{◌≡◌, ℕ, ◌+◌, Bool, true, ◌&&◌, cond, ◌<◌, ◌≤◌, List, [], ◌∷◌, Result, Ok, Err, IfOk, length, drop, get_or, sym, ◌∙◌, ap, subst}
 use Rattle.std.proofs.lemmas.List.{drop_more, drop_all}
 use Rattle.std.specs.declared.option.Option.{Option}
 use Rattle.plai_domain.specs.Plain.{PlainDomain}
@@ -48,9 +48,9 @@ module _ (form : Form) (p : PlainDomain) (limit : ℕ) (givens : List (Result Pr
       → WritesBlock form p limit number (judged program item) last now next (Err stop) → Both form p limit givens before next whole (Err stop)
   item_stops next last whole stop joined writes = (
     wrote_stops p limit form givens before now span (judged program item) (behind (kept program (judged program item)) (drop (i + 1) items)) number are_tables
-    at_next next last stop writes,
+        at_next next last stop writes,
     works_stop p limit form givens before now span (judged program item) (behind (kept program (judged program item)) (drop (i + 1) items)) number are_tables
-    at_next next last whole stop writes joined,
+        at_next next last whole stop writes joined,
   )
 
 module _ (form : Form) (p : PlainDomain) (limit : ℕ) (givens : List (Result ProgramView EditCause)) (before now : Option (List ℕ)) (span : Span)

@@ -1,5 +1,5 @@
 -- Spans of work, and the work of one block more.
-use Rattle.std.proofs.Common.{◌≡◌, ℕ, ◌+◌, List, [], ◌∷◌, ◌++◌, Result, length, refl, sym, ◌∙◌, subst, arith}
+use Rattle.std.proofs.Common.{◌≡◌, ℕ, ◌+◌, List, [], ◌∷◌, ◌++◌, Result, length, refl, ◌∙◌, subst, arith}
 use Rattle.std.specs.declared.option.Option.{Option}
 use Rattle.plai_domain.specs.Plain.{PlainDomain}
 use Rattle.plai_domain.specs.declared.work.WorkEntry.{WorkEntry}
@@ -9,7 +9,8 @@ use Rattle.plai_top.specs.Blocks.{Block}
 use Rattle.plai_top.specs.Working.{Span, between, IsIdle, AreJoined, IsWorked, AreWorked, none_worked, one_worked}
 
 -- the span up to a later count is that up to an earlier one and then the rest
-pub joined : (first second third : Option (List WorkEntry)) (x y z : ℕ) → AreJoined (between first second x y) (between second third y z) (between first third x z)
+pub joined : (first second third : Option (List WorkEntry)) (x y z : ℕ)
+    → AreJoined (between first second x y) (between second third y z) (between first third x z)
 joined first second third x y z = record { begins = refl; meets = refl; ends = refl; within = omega arith }
 
 -- nothing, and then a span

@@ -1,5 +1,5 @@
 -- The work of a call, from what it was to do.
-use Rattle.std.proofs.Common.{arith, ◌≡◌, ◌⊎◌, ℕ, List, ◌∷◌, None, Some, Result, Ok, Err, IfOk, refl, sym, ◌∙◌, subst, inl, inr}
+use Rattle.std.proofs.Common.{arith, ◌≡◌, ◌⊎◌, ℕ, List, ◌∷◌, None, Some, Result, Ok, Err, IfOk, sym, ◌∙◌, subst, inl, inr}
 use Rattle.std.specs.declared.option.Option.{Option}
 use Rattle.plai_base.specs.Texts.{TextMap}
 use Rattle.plai_clauses.specs.Program.{ProgramView}
@@ -83,11 +83,11 @@ module _ (words : List (List ℕ)) where
       }
 
       pub blocks_worked : (status : ℕ) → (status ≡ 0) ⊎ (status ≡ 1)
-          → AllWorked task.form (domain_of task) task.rows (Ok program ∷ behind program items) before after span → Has status
+          → AllWorked task.form (domain_of task) task.rows (Ok program ∷ behind program items) before after span status → Has status
       blocks_worked status small worked = record {
         all = λ done. (
           analysis,
-          subst (λ t. AllWorked t.form (domain_of t) t.rows (Ok program ∷ behind program items) before after span) (sym same) worked,
+          subst (λ t. AllWorked t.form (domain_of t) t.rows (Ok program ∷ behind program items) before after span status) (sym same) worked,
         );
         first = λ cut. absurd (not_cut status small cut);
       }

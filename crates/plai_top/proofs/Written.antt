@@ -60,7 +60,7 @@ use Rattle.plai_top.specs.Writing.{WritesBlock, AreFormed, Wrote, WritesBlocks}
 use Rattle.plai_top.specs.declared.form.Form.{Form}
 use Rattle.plai_top.specs.declared.form.Form.TheVariants.{Tables, Counts}
 use Rattle.plai_top.specs.declared.stop.Stop.{Stop}
-use Rattle.plai_top.specs.declared.stop.Stop.TheVariants.{WriteFault, Memory}
+use Rattle.plai_top.specs.declared.stop.Stop.TheVariants.{WriteFault}
 use Rattle.plai_top.proofs.Spans.{worked_more}
 
 -- ---- bytes
@@ -171,7 +171,8 @@ module _ (p : PlainDomain) (limit : ℕ) where
         are = blocks_join wrote.earlier (given ∷ []) wrote.written (is.own.block ∷ []) wrote.are (one_alone given is.own.block is.own.is_block);
         bytes =
             let own : text ≡ text_of form number is.own.block ++ [] = is.is_text ∙ sym (append-nil (text_of form number is.own.block)) in
-            let numbered : text ≡ texts_from form (length wrote.written) (is.own.block ∷ []) = own ∙ ap (λ n. texts_from form n (is.own.block ∷ [])) (sym wrote.count) in
+            let numbered : text ≡ texts_from form (length wrote.written) (is.own.block ∷ []) =
+            own ∙ ap (λ n. texts_from form n (is.own.block ∷ [])) (sym wrote.count) in
             subst (Appends before next) (ap (λ l. texts_from form 0 wrote.written ++ l) numbered ∙ sym (texts_behind form wrote.written (is.own.block ∷ [])))
             (appends_then before now next (texts_from form 0 wrote.written) text wrote.bytes took);
         formed = All-push (λ g. IfOk g IsWellFormed) wrote.earlier given wrote.formed own_form;
@@ -267,23 +268,24 @@ module _ (p : PlainDomain) (limit : ℕ) where
         )
 
     module _ (now : Option (List ℕ)) (span : Span) (number : ℕ) (are_tables : Bool) (wrote : Wrote form p limit givens before now span [] number are_tables)
-        where
-      all_parts : givens ≡ wrote.earlier
-      all_parts = wrote.parts ∙ append-nil wrote.earlier
+      where
+        all_parts : givens ≡ wrote.earlier
+        all_parts = wrote.parts ∙ append-nil wrote.earlier
 
-      pub wrote_all : WritesBlocks form p limit givens before now (Ok (cond are_tables 0 1))
-      wrote_all = record {
-        blocks = wrote.written;
-        are = subst (λ gs. AreBlocksOf p limit gs wrote.written) (sym all_parts) wrote.are;
-        formed = subst AreFormed (sym all_parts) wrote.formed;
-        is_status = ap (λ b. cond b 0 1) wrote.tables;
-        bytes = wrote.bytes;
-      }
+        pub wrote_all : WritesBlocks form p limit givens before now (Ok (cond are_tables 0 1))
+        wrote_all = record {
+          blocks = wrote.written;
+          are = subst (λ gs. AreBlocksOf p limit gs wrote.written) (sym all_parts) wrote.are;
+          formed = subst AreFormed (sym all_parts) wrote.formed;
+          is_status = ap (λ b. cond b 0 1) wrote.tables;
+          bytes = wrote.bytes;
+        }
 
-      pub works_all : AllWorked form p limit givens before now span
-      works_all = record {
-        blocks = wrote.written;
-        are = subst (λ gs. AreBlocksOf p limit gs wrote.written) (sym all_parts) wrote.are;
-        bytes = wrote.bytes;
-        worked = subst (λ gs. AreWorked p limit 0 gs wrote.written span) (sym all_parts) wrote.worked;
-      }
+        pub works_all : AllWorked form p limit givens before now span (cond are_tables 0 1)
+        works_all = record {
+          blocks = wrote.written;
+          are = subst (λ gs. AreBlocksOf p limit gs wrote.written) (sym all_parts) wrote.are;
+          is_status = ap (λ b. cond b 0 1) wrote.tables;
+          bytes = wrote.bytes;
+          worked = subst (λ gs. AreWorked p limit 0 gs wrote.written span) (sym all_parts) wrote.worked;
+        }

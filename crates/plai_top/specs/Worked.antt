@@ -35,6 +35,6 @@ OfAnalysis P what = P (form_of what.settings) (domain_of (task_of what.settings)
 pub record HasWorked (words : List (List ℕ)) (files : Option TextMap) (script : Option (List ℕ)) (result : ℕ) (before after : Option (List ℕ))
     (span : Span) : Type 0 where
   pub all : (result ≡ 0) ⊎ (result ≡ 1)
-      → (what : Analysis words files script) × OfAnalysis (λ form p limit givens. AllWorked form p limit givens before after span) what
+      → (what : Analysis words files script) × OfAnalysis (λ form p limit givens. AllWorked form p limit givens before after span result) what
   pub first : (result ≡ 6) ⊎ (result ≡ 7)
       → IsIdle span ⊎ ((what : Analysis words files script) × OfAnalysis (λ form p limit givens. FirstWorked form p limit givens before after span) what)

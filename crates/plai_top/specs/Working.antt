@@ -9,7 +9,7 @@ use Rattle.plai_clauses.specs.declared.edit_cause.EditCause.{EditCause}
 use Rattle.plai_session.specs.Work.{IsWorkOf, IsCutOff}
 use Rattle.plai_session.specs.declared.answer.EditAnswer.TheVariants as answer
 use Rattle.plai_terms.specs.declared.row_name.RowName.{RowName}
-use Rattle.plai_top.specs.Blocks.{Block, table, refused, stopped, text_of, texts_from, IsBlockOf, AreBlocksOf}
+use Rattle.plai_top.specs.Blocks.{Block, table, refused, stopped, text_of, texts_from, status_of_blocks, IsBlockOf, AreBlocksOf}
 use Rattle.plai_top.specs.declared.form.Form.{Form}
 use Rattle.plai_top.specs.declared.stop.Stop.{Stop}
 
@@ -68,11 +68,12 @@ pub data IsLastWorked (form : Form) (p : PlainDomain) (limit number : ℕ) (give
   is_unwritten : (block : Block) (n : ℕ) → IsBlockOf p limit given block → IsWorked p limit number given block span
       → IsLastWorked form p limit number given span (take n (text_of form number block))
 
--- the blocks of these were written, and the work is theirs
+-- the blocks of these were written, with this status, and the work is theirs
 pub record AllWorked (form : Form) (p : PlainDomain) (limit : ℕ) (givens : List (Result ProgramView EditCause)) (before after : Option (List ℕ))
-    (span : Span) : Type 0 where
+    (span : Span) (status : ℕ) : Type 0 where
   pub blocks : List Block
   pub are : AreBlocksOf p limit givens blocks
+  pub is_status : status ≡ status_of_blocks blocks
   pub bytes : Appends before after (texts_from form 0 blocks)
   pub worked : AreWorked p limit 0 givens blocks span
 
@@ -95,5 +96,5 @@ pub record FirstWorked (form : Form) (p : PlainDomain) (limit : ℕ) (givens : L
 
 -- the work of blocks that were all written, or not all
 abbrev pub WorksBlocks : Form → PlainDomain → ℕ → List (Result ProgramView EditCause) → Option (List ℕ) → Option (List ℕ) → Span → Result ℕ Stop → Type 0
-WorksBlocks form p limit givens before after span (Ok status) = AllWorked form p limit givens before after span
+WorksBlocks form p limit givens before after span (Ok status) = AllWorked form p limit givens before after span status
 WorksBlocks form p limit givens before after span (Err stop) = FirstWorked form p limit givens before after span

@@ -49,7 +49,8 @@ WritesBlock form p limit number given span before after (Ok shows_table) =
     (text : List ℕ) × IsBlockText form p limit number given span text shows_table × Appends before after text
 WritesBlock form p limit number given span before after (Err stop) =
     ((stop ≡ Memory) × Keeps before after × IsLastWorked form p limit number given span [])
-    ⊎ ((stop ≡ WriteFault) × ((text : List ℕ) × (shows_table : Bool) × IsBlockText form p limit number given span text shows_table × ((n : ℕ) × Appends before after (take n text))))
+    ⊎ ((stop ≡ WriteFault) × ((text : List ℕ) × (shows_table : Bool) × IsBlockText form p limit number given span text shows_table
+    × ((n : ℕ) × Appends before after (take n text))))
 
 -- the programs are well formed
 abbrev pub AreFormed : List (Result ProgramView EditCause) → Type 0
@@ -70,7 +71,8 @@ pub record Wrote (form : Form) (p : PlainDomain) (limit : ℕ) (givens : List (R
   pub worked : AreWorked p limit 0 earlier written span
 
 -- blocks of these were written, all of them, with this status
-pub record AreWritten (form : Form) (p : PlainDomain) (limit : ℕ) (givens : List (Result ProgramView EditCause)) (before after : Option (List ℕ)) (status : ℕ) : Type 0 where
+pub record AreWritten (form : Form) (p : PlainDomain) (limit : ℕ) (givens : List (Result ProgramView EditCause)) (before after : Option (List ℕ))
+    (status : ℕ) : Type 0 where
   pub blocks : List Block
   pub are : AreBlocksOf p limit givens blocks
   pub formed : AreFormed givens

@@ -222,9 +222,10 @@ fn write_items<D: Domain, K: Sink, W: Work, L: Ledger>(
     requires { AreReadable items.now }
     ensures blocks { (givens : List (Result ProgramView EditCause)) (before : Option (List ℕ)) (begun : Option (List WorkEntry)) (counted : ℕ)
         → Wrote form (D.plain session.domain) session.limit givens before (K.taken sink.old) (between begun (W.entries work.old) counted steps.old)
-            (behind session.program items.now) 1 is_table
+        (behind session.program items.now) 1 is_table
         → WritesBlocks form (D.plain session.domain) session.limit givens before (K.taken sink.new) result
-            × WorksBlocks form (D.plain session.domain) session.limit givens before (K.taken sink.new) (between begun (W.entries work.new) counted steps.new) result }
+        × WorksBlocks form (D.plain session.domain) session.limit givens before (K.taken sink.new)
+        (between begun (W.entries work.new) counted steps.new) result }
     ensures status { IfOk result (λ status. (status ≡ 0) ⊎ (status ≡ 1)) }
     ensures stop { IfErr result IsPlanStop }
     ensures later { K.faults sink.old ≤ K.faults sink.new }

@@ -16,7 +16,8 @@ returns-in-Err-clause-blocks g c = λ givens before begun counted wrote.
     let later = c.write_item.new.steps in
     let last = between told then at.steps later in
     let plain = g.D.Domain.plain in
-    item_stops c.args.form (plain own.domain) own.limit givens before now (between begun told counted at.steps) at.session.program c.args.items.now at.item-index
+    item_stops c.args.form (plain own.domain) own.limit givens before now (between begun told counted at.steps) at.session.program c.args.items.now
+    at.item-index
     c.item-item.result at.number at.are_tables c.loop-item-test.true c.item-item.is (at.invariant.wrote givens before begun counted wrote)
     next last (between begun then counted later) c.in-Err.stop (joined begun told then counted at.steps later)
     (block_for c.args.form plain at.session.domain own.domain at.session.limit own.limit at.number (judged at.session.program c.item-item.result) last now next

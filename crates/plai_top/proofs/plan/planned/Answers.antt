@@ -3,7 +3,6 @@ use Rattle.plai_base.specs.Causes.{Rose}
 use Rattle.plai_words.specs.Command.{texts}
 use Rattle.plai_top.specs.Commands.{IsCommandOf}
 use Rattle.plai_top.proofs.Deciding.{made_outcome, made_keeps_early, made_keeps_words, words_decide, words_never_fail, stop_outcome, stop_keeps_early}
-use Rattle.plai_top.proofs.Made.{files_keep_made, words_keep_made}
 use Rattle.plai_top.proofs.Worked.{task_by}
 use Rattle.plai_top.proofs.plan.planned.Goals as goal
 

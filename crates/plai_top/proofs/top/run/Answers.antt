@@ -6,7 +6,7 @@ use Rattle.plai_top.specs.Headline.{TakesPromised}
 use Rattle.plai_top.specs.Told.{IfBothTold}
 use Rattle.plai_top.specs.Worked.{HasWorked}
 use Rattle.plai_top.specs.Working.{between}
-use Rattle.plai_top.proofs.Endings.{plan_whole, plan_every, plan_early, cut_whole, cut_every, cut_early, stopped_whole, stopped_every, stopped_early}
+use Rattle.plai_top.proofs.Endings.{plan_whole, plan_every, cut_every, cut_early, stopped_early}
 use Rattle.plai_top.proofs.Made.{plan_made, cut_made, stopped_made, plan_made_status, cut_made_status, stopped_made_status}
 use Rattle.plai_top.proofs.Headline.{plan_promised, stop_promises}
 use Rattle.plai_top.proofs.Parts.{plan_within, stopped_within, plan_part, stopped_part, cut_part, cut_made_part}
