@@ -163,7 +163,7 @@ module _ (promise : TablesPromise) (words : List (List ℕ)) (before after : Opt
   plan_promised (Some files) (Some text) plan status is fit carried = carried_promised files text plan status is fit carried
 
 -- a stop is no table
-never_done : (stop : Stop) → (status_of stop ≡ 0) ⊎ (status_of stop ≡ 1) → ⊥
+pub never_done : (stop : Stop) → (status_of stop ≡ 0) ⊎ (status_of stop ≡ 1) → ⊥
 never_done NoCommand done = elim done [ inl e ↦ omega arith | inr e ↦ omega arith ]
 never_done TooLarge done = elim done [ inl e ↦ omega arith | inr e ↦ omega arith ]
 never_done ReadFault done = elim done [ inl e ↦ omega arith | inr e ↦ omega arith ]

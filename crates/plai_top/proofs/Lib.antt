@@ -2,6 +2,7 @@ mod Answering
 mod Deciding
 mod Endings
 mod Headline
+mod Items
 mod Made
 mod Opened
 mod Outcomes
@@ -9,4 +10,6 @@ mod Parts
 mod Printed
 mod Reading
 mod Scripts
+mod Spans
+mod Worked
 mod Written

@@ -1,8 +1,8 @@
 -- Blocks that are written one by one are the blocks of a call.
-use Rattle.std.proofs.Common.{◌≡◌, ◌≢◌, ℕ, zero, suc, ◌+◌, Bool, true, false, ◌&&◌, cond, ◌<◌, ◌≤◌, List, [], ◌∷◌, ◌++◌, None, Some, Result, Ok, Err, IfOk}
-use Rattle.std.proofs.Common.{length, take, drop, get_or, refl, sym, ◌∙◌, ap, subst, inl, inr, arith}
+use Rattle.std.proofs.Common.{◌≡◌, ◌≢◌, ℕ, zero, suc, ◌+◌, Bool, true, false, ◌&&◌, cond, List, [], ◌∷◌, ◌++◌, None, Some, Result, Ok, Err, IfOk, length}
+use Rattle.std.proofs.Common.{take, refl, sym, ◌∙◌, ap, subst, inl, inr, arith}
 use Rattle.std.proofs.Math.Seq.{take-append_seam, take-append-add}
-use Rattle.std.proofs.lemmas.List.{append-nil, append_assoc, length-append, drop_more, drop_all}
+use Rattle.std.proofs.lemmas.List.{append-nil, append_assoc, length-append}
 use Rattle.std.proofs.lemmas.List.Folds.{list_all-append}
 use Rattle.std.proofs.lemmas.List.Elements.{All-push, All-nil}
 use Rattle.std.specs.List.{list_all}
@@ -12,14 +12,14 @@ use Rattle.plai_domain.specs.Plain.{PlainDomain}
 use Rattle.plai_clauses.specs.Program.{ProgramView}
 use Rattle.plai_clauses.specs.WellFormed.{IsWellFormed}
 use Rattle.plai_clauses.specs.declared.edit_cause.EditCause.{EditCause}
-use Rattle.plai_script.specs.declared.edit.Edit.{Edit}
-use Rattle.plai_session.specs.Programs.{judged, kept, behind}
 use Rattle.plai_top.specs.Blocks.{Block, table, refused, stopped, text_of, texts_from, is_table, IsBlockOf, AreBlocksOf, no_more, one_more, IsTextOfFirst}
+use Rattle.plai_top.specs.Working.{Span, IsIdle, AreJoined, IsWorked, AreWorked, none_worked, IsLastWorked, is_unwritten, AllWorked, FirstWorked}
 use Rattle.plai_top.specs.Writing.{WritesBlock, AreFormed, Wrote, WritesBlocks}
 use Rattle.plai_top.specs.declared.form.Form.{Form}
 use Rattle.plai_top.specs.declared.form.Form.TheVariants.{Tables, Counts}
 use Rattle.plai_top.specs.declared.stop.Stop.{Stop}
-use Rattle.plai_top.specs.declared.stop.Stop.TheVariants.{WriteFault, Memory}
+use Rattle.plai_top.specs.declared.stop.Stop.TheVariants.{WriteFault}
+use Rattle.plai_top.proofs.Spans.{worked_more}
 
 -- ---- bytes
 
@@ -35,7 +35,7 @@ kept_appends None after same = tt
 kept_appends (Some a) None same = absurd same
 kept_appends (Some a) (Some b) same = same ∙ sym (append-nil a)
 
-nothing_more : (taken : Option (List ℕ)) → Appends taken taken []
+pub nothing_more : (taken : Option (List ℕ)) → Appends taken taken []
 nothing_more None = tt
 nothing_more (Some bytes) = sym (append-nil bytes)
 
@@ -102,8 +102,8 @@ module _ (p : PlainDomain) (limit : ℕ) where
   one_alone g b is = one_more g b [] [] is no_more
 
   module _ (form : Form) (givens : List (Result ProgramView EditCause)) (before : Option (List ℕ)) where
-    pub nothing_written : Appends before before [] → Wrote form p limit givens before before givens 0 true
-    nothing_written none = record {
+    pub nothing_written : Appends before before [] → (span : Span) → IsIdle span → Wrote form p limit givens before before span givens 0 true
+    nothing_written none span idle = record {
       earlier = [];
       written = [];
       parts = refl;
@@ -113,27 +113,34 @@ module _ (p : PlainDomain) (limit : ℕ) where
           All-nil (λ given. IfOk given IsWellFormed);
       count = refl;
       tables = refl;
+      worked = none_worked 0 span idle;
     }
 
-    module _ (now : Option (List ℕ)) (given : Result ProgramView EditCause) (left : List (Result ProgramView EditCause)) (number : ℕ) (are_tables : Bool)
-        (wrote : Wrote form p limit givens before now (given ∷ left) number are_tables) where
+    module _ (now : Option (List ℕ)) (span : Span) (given : Result ProgramView EditCause) (left : List (Result ProgramView EditCause)) (number : ℕ)
+        (are_tables : Bool) (wrote : Wrote form p limit givens before now span (given ∷ left) number are_tables) where
       -- one block more
-      pub wrote_more : IfOk given IsWellFormed → (next : Option (List ℕ)) (shows : Bool) → WritesBlock form p limit number given now next (Ok shows)
-          → Wrote form p limit givens before next left (number + 1) (are_tables && shows)
-      wrote_more own_form next shows (text, is, took) = record {
+      pub wrote_more : IfOk given IsWellFormed → (next : Option (List ℕ)) (last whole : Span) (shows : Bool)
+          → WritesBlock form p limit number given last now next (Ok shows) → AreJoined span last whole
+          → Wrote form p limit givens before next whole left (number + 1) (are_tables && shows)
+      wrote_more own_form next last whole shows (text, is, took) joined = record {
         earlier = wrote.earlier ++ given ∷ [];
-        written = wrote.written ++ is.block ∷ [];
+        written = wrote.written ++ is.own.block ∷ [];
         parts = wrote.parts ∙ sym (append_assoc wrote.earlier (given ∷ []) left);
-        are = blocks_join wrote.earlier (given ∷ []) wrote.written (is.block ∷ []) wrote.are (one_alone given is.block is.is_block);
+        are = blocks_join wrote.earlier (given ∷ []) wrote.written (is.own.block ∷ []) wrote.are (one_alone given is.own.block is.own.is_block);
         bytes =
-            let own : text ≡ text_of form number is.block ++ [] = is.is_text ∙ sym (append-nil (text_of form number is.block)) in
-            let last : text ≡ texts_from form (length wrote.written) (is.block ∷ []) = own ∙ ap (λ n. texts_from form n (is.block ∷ [])) (sym wrote.count) in
-            subst (Appends before next) (ap (λ l. texts_from form 0 wrote.written ++ l) last ∙ sym (texts_behind form wrote.written (is.block ∷ [])))
+            let own : text ≡ text_of form number is.own.block ++ [] = is.is_text ∙ sym (append-nil (text_of form number is.own.block)) in
+            let numbered : text ≡ texts_from form (length wrote.written) (is.own.block ∷ []) =
+            own ∙ ap (λ n. texts_from form n (is.own.block ∷ [])) (sym wrote.count) in
+            subst (Appends before next) (ap (λ l. texts_from form 0 wrote.written ++ l) numbered ∙ sym (texts_behind form wrote.written (is.own.block ∷ [])))
             (appends_then before now next (texts_from form 0 wrote.written) text wrote.bytes took);
         formed = All-push (λ g. IfOk g IsWellFormed) wrote.earlier given wrote.formed own_form;
-        count = length-append wrote.written (is.block ∷ []) ∙ ap (λ n. n + 1) wrote.count;
-        tables = ap (λ b. b && shows) wrote.tables ∙ ap (λ b. list_all is_table wrote.written && b) (sym (alone is.block shows is.shows))
-            ∙ sym (list_all-append is_table wrote.written (is.block ∷ []));
+        count = length-append wrote.written (is.own.block ∷ []) ∙ ap (λ n. n + 1) wrote.count;
+        tables = ap (λ b. b && shows) wrote.tables ∙ ap (λ b. list_all is_table wrote.written && b) (sym (alone is.own.block shows is.own.shows))
+            ∙ sym (list_all-append is_table wrote.written (is.own.block ∷ []));
+        worked =
+            let e : number ≡ 0 + length wrote.written = omega (arith, wrote.count) in
+            worked_more p limit 0 wrote.earlier wrote.written span wrote.worked given is.own.block last
+            (subst (λ n. IsWorked p limit n given is.own.block last) e is.own.worked) whole joined;
       }
         where
           alone : (b : Block) (s : Bool) → is_table b ≡ s → list_all is_table (b ∷ []) ≡ s
@@ -167,17 +174,44 @@ module _ (p : PlainDomain) (limit : ℕ) where
             ),
           )
 
-      pub wrote_stops : (next : Option (List ℕ)) (stop : Stop) → WritesBlock form p limit number given now next (Err stop)
+      stopped_behind : (next : Option (List ℕ)) (last whole : Span) (text : List ℕ) → AreJoined span last whole
+          → IsLastWorked form p limit number given last text → Appends now next text → FirstWorked form p limit givens before next whole
+      stopped_behind next last whole text joined worked took = record {
+        first = wrote.earlier;
+        next = given;
+        others = left;
+        parts = wrote.parts;
+        blocks = wrote.written;
+        are = wrote.are;
+        earlier = span;
+        worked = wrote.worked;
+        last = last;
+        text = text;
+        last_worked = subst (λ n. IsLastWorked form p limit n given last text) (sym wrote.count) worked;
+        joined = joined;
+        bytes = appends_then before now next (texts_from form 0 wrote.written) text wrote.bytes took;
+      }
+
+      pub wrote_stops : (next : Option (List ℕ)) (last : Span) (stop : Stop) → WritesBlock form p limit number given last now next (Err stop)
           → WritesBlocks form p limit givens before next (Err stop)
-      wrote_stops next stop (inl (memory, same)) =
+      wrote_stops next last stop (inl (memory, same, worked)) =
           let head : List ℕ = texts_from form 0 wrote.written in
           let took : Appends before next (head ++ []) = appends_then before now next head [] wrote.bytes (kept_appends now next same) in (
             head,
             record { first = wrote.earlier; others = given ∷ left; parts = wrote.parts; blocks = wrote.written; are = wrote.are; is_text = refl },
             inl (memory, subst (Appends before next) (append-nil head) took),
           )
-      wrote_stops next stop (inr (fault, (text, shows, is, (n, took)))) =
-          cut_within next stop fault is.block is.is_block n (subst (λ l. Appends now next (take n l)) is.is_text took)
+      wrote_stops next last stop (inr (fault, (text, shows, is, (n, took)))) =
+          cut_within next stop fault is.own.block is.own.is_block n (subst (λ l. Appends now next (take n l)) is.is_text took)
+
+      -- the work of blocks that were not all written
+      pub works_stop : (next : Option (List ℕ)) (last whole : Span) (stop : Stop) → WritesBlock form p limit number given last now next (Err stop)
+          → AreJoined span last whole → FirstWorked form p limit givens before next whole
+      works_stop next last whole stop (inl (memory, same, worked)) joined =
+          stopped_behind next last whole [] joined worked (kept_appends now next same)
+      works_stop next last whole stop (inr (fault, (text, shows, is, (n, took)))) joined =
+          stopped_behind next last whole (take n (text_of form number is.own.block)) joined (is_unwritten is.own.block n is.own.is_block is.own.worked)
+          (subst (λ l. Appends now next (take n l)) is.is_text took)
 
     -- other blocks of all of these complete those of the first
     pub first_extend : (text : List ℕ) → IsTextOfFirst form p limit givens text → (others : List Block) → AreBlocksOf p limit givens others
@@ -191,85 +225,25 @@ module _ (p : PlainDomain) (limit : ℕ) where
           (rest, texts_behind form is.blocks tail ∙ ap (λ l. l ++ rest) (sym is.is_text)),
         )
 
-    pub wrote_all : (now : Option (List ℕ)) (number : ℕ) (are_tables : Bool) → Wrote form p limit givens before now [] number are_tables
-        → WritesBlocks form p limit givens before now (Ok (cond are_tables 0 1))
-    wrote_all now number are_tables wrote =
-        let parts : givens ≡ wrote.earlier = wrote.parts ∙ append-nil wrote.earlier in
-        record {
+    module _ (now : Option (List ℕ)) (span : Span) (number : ℕ) (are_tables : Bool) (wrote : Wrote form p limit givens before now span [] number are_tables)
+      where
+        all_parts : givens ≡ wrote.earlier
+        all_parts = wrote.parts ∙ append-nil wrote.earlier
+
+        pub wrote_all : WritesBlocks form p limit givens before now (Ok (cond are_tables 0 1))
+        wrote_all = record {
           blocks = wrote.written;
-          are = subst (λ gs. AreBlocksOf p limit gs wrote.written) (sym parts) wrote.are;
-          formed = subst AreFormed (sym parts) wrote.formed;
+          are = subst (λ gs. AreBlocksOf p limit gs wrote.written) (sym all_parts) wrote.are;
+          formed = subst AreFormed (sym all_parts) wrote.formed;
           is_status = ap (λ b. cond b 0 1) wrote.tables;
           bytes = wrote.bytes;
         }
 
--- ---- an item of the script
-
-module _ (form : Form) (p : PlainDomain) (limit : ℕ) (givens : List (Result ProgramView EditCause)) (before now : Option (List ℕ)) (program : ProgramView)
-    (items : List (Result Edit EditCause)) (i : ℕ) (item : Result Edit EditCause) (number : ℕ) (are_tables : Bool) (within : i < length items)
-    (is : item ≡ get_or items i item) where
-  -- the next item is the first that is left
-  next_left : behind program (drop i items) ≡ judged program item ∷ behind (kept program (judged program item)) (drop (i + 1) items)
-  next_left = ap (behind program) (drop_more items i item within ∙ ap (λ x. x ∷ drop (i + 1) items) (sym is))
-
-  kept_well : (given : Result ProgramView EditCause) (changed : ProgramView) → changed ≡ kept program given → IsWellFormed changed → IfOk given IsWellFormed
-  kept_well (Ok own) changed same well = subst IsWellFormed same well
-  kept_well (Err cause) changed same well = tt
-
-  at_next : Wrote form p limit givens before now (behind program (drop i items)) number are_tables
-      → Wrote form p limit givens before now (judged program item ∷ behind (kept program (judged program item)) (drop (i + 1) items)) number are_tables
-  at_next wrote = subst (λ l. Wrote form p limit givens before now l number are_tables) next_left wrote
-
-  pub item_more : (next : Option (List ℕ)) (shows : Bool) (changed : ProgramView)
-      → Wrote form p limit givens before now (behind program (drop i items)) number are_tables
-      → WritesBlock form p limit number (judged program item) now next (Ok shows) → changed ≡ kept program (judged program item) → IsWellFormed changed
-      → Wrote form p limit givens before next (behind changed (drop (i + 1) items)) (number + 1) (are_tables && shows)
-  item_more next shows changed wrote writes same well =
-      subst (λ g. Wrote form p limit givens before next (behind g (drop (i + 1) items)) (number + 1) (are_tables && shows)) (sym same)
-      (wrote_more p limit form givens before now (judged program item) (behind (kept program (judged program item)) (drop (i + 1) items)) number are_tables
-      (at_next wrote) (kept_well (judged program item) changed same well) next shows writes)
-
-  pub item_stops : (next : Option (List ℕ)) (stop : Stop) → Wrote form p limit givens before now (behind program (drop i items)) number are_tables
-      → WritesBlock form p limit number (judged program item) now next (Err stop) → WritesBlocks form p limit givens before next (Err stop)
-  item_stops next stop wrote writes =
-      wrote_stops p limit form givens before now (judged program item) (behind (kept program (judged program item)) (drop (i + 1) items)) number are_tables
-      (at_next wrote) next stop writes
-
-module _ (form : Form) (p : PlainDomain) (limit : ℕ) (givens : List (Result ProgramView EditCause)) (before now : Option (List ℕ)) (program : ProgramView)
-    (items : List (Result Edit EditCause)) where
-  pub items_end : (i number : ℕ) (are_tables : Bool) → Wrote form p limit givens before now (behind program (drop i items)) number are_tables → length items ≤ i
-      → WritesBlocks form p limit givens before now (Ok (cond are_tables 0 1))
-  items_end i number are_tables wrote past =
-      wrote_all p limit form givens before now number are_tables
-      (subst (λ l. Wrote form p limit givens before now (behind program l) number are_tables) (drop_all i items past) wrote)
-
--- the same domain and limit
-pub block_for : {D : Type 0} (form : Form) (plain : D → PlainDomain) (own domain : D) (most limit number : ℕ) (given : Result ProgramView EditCause)
-    (now next : Option (List ℕ)) (result : Result Bool Stop)
-    → own ≡ domain → most ≡ limit → WritesBlock form (plain own) most number given now next result
-    → WritesBlock form (plain domain) limit number given now next result
-block_for form plain own domain most limit number given now next result same also writes =
-    subst (λ n. WritesBlock form (plain domain) n number given now next result) also
-    (subst (λ d. WritesBlock form (plain d) most number given now next result) same writes)
-
--- ---- the first block
-
-pub first_written : (form : Form) (p : PlainDomain) (limit : ℕ) (given : Result ProgramView EditCause) (left : List (Result ProgramView EditCause))
-    (before now : Option (List ℕ)) (shows : Bool)
-    → IfOk given IsWellFormed → WritesBlock form p limit 0 given before now (Ok shows) → Wrote form p limit (given ∷ left) before now left 1 shows
-first_written form p limit given left before now shows well writes =
-    wrote_more p limit form (given ∷ left) before before given left 0 true (nothing_written p limit form (given ∷ left) before (nothing_more before)) well now
-    shows writes
-
-pub first_stops : (form : Form) (p : PlainDomain) (limit : ℕ) (given : Result ProgramView EditCause) (left : List (Result ProgramView EditCause))
-    (before now : Option (List ℕ)) (stop : Stop)
-    → WritesBlock form p limit 0 given before now (Err stop) → WritesBlocks form p limit (given ∷ left) before now (Err stop)
-first_stops form p limit given left before now stop writes =
-    wrote_stops p limit form (given ∷ left) before before given left 0 true (nothing_written p limit form (given ∷ left) before (nothing_more before))
-    now stop writes
-
--- there is no first block
-pub none_written : (form : Form) (p : PlainDomain) (limit : ℕ) (givens : List (Result ProgramView EditCause)) (taken : Option (List ℕ))
-    → WritesBlocks form p limit givens taken taken (Err Memory)
-none_written form p limit givens taken =
-    ([], record { first = []; others = givens; parts = refl; blocks = []; are = no_more; is_text = refl }, inl (refl, nothing_more taken))
+        pub works_all : AllWorked form p limit givens before now span (cond are_tables 0 1)
+        works_all = record {
+          blocks = wrote.written;
+          are = subst (λ gs. AreBlocksOf p limit gs wrote.written) (sym all_parts) wrote.are;
+          is_status = ap (λ b. cond b 0 1) wrote.tables;
+          bytes = wrote.bytes;
+          worked = subst (λ gs. AreWorked p limit 0 gs wrote.written span) (sym all_parts) wrote.worked;
+        }

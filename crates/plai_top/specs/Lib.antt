@@ -12,4 +12,6 @@ pub mod Scripts
 pub mod Stops
 pub mod Tasks
 pub mod Told
+pub mod Worked
+pub mod Working
 pub mod Writing

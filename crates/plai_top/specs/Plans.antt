@@ -1,9 +1,10 @@
 -- What a call is to do once its input is read, and what it does.
-use Rattle.std.specs.Prelude.{◌≡◌, ◌≢◌, ◌⊎◌, ◌≤◌, ◌∷◌, ℕ, List, [], Result, Ok, Err, MatchResult, take}
+use Rattle.std.specs.Prelude.{◌≡◌, ◌≢◌, ◌⊎◌, ◌≤◌, ◌∷◌, ℕ, List, [], Some, Result, Ok, Err, MatchResult, take}
 use Rattle.std.specs.Io.KnownBytes.{Appends}
 use Rattle.std.specs.declared.option.Option.{Option}
 use Rattle.plai_base.specs.Texts.{TextMap}
 use Rattle.plai_clauses.specs.Program.{ProgramView}
+use Rattle.plai_words.specs.Command.{settings_of}
 use Rattle.plai_words.specs.declared.types.Settings.{Settings}
 use Rattle.plai_session.specs.Programs.{behind}
 use Rattle.plai_make.specs.Programs.{made_program, made_edits}
@@ -12,6 +13,7 @@ use Rattle.plai_top.specs.Outcome.{Outcome, IsEarly, IsAsked, IsByScript, HasEdi
 use Rattle.plai_top.specs.Scripts.{AreReadable}
 use Rattle.plai_top.specs.Stops.{status_of}
 use Rattle.plai_top.specs.Tasks.{domain_of, task_of}
+use Rattle.plai_top.specs.Working.{Span, IsIdle, WorksBlocks}
 use Rattle.plai_top.specs.Writing.{WritesBlocks}
 use Rattle.plai_top.specs.declared.plan.Plan.{Plan}
 use Rattle.plai_top.specs.declared.plan.Plan.TheVariants.{Line, Blocks}
@@ -65,6 +67,21 @@ CarriesOut before after (Line bytes) (Ok status) = (status ≡ 3) × Appends bef
 CarriesOut before after (Line bytes) (Err stop) = (stop ≡ WriteFault) × ((n : ℕ) × Appends before after (take n bytes.items))
 CarriesOut before after (Blocks task program items) result =
     WritesBlocks task.form (domain_of task) task.rows (Ok program ∷ behind program items.items) before after result
+
+-- the work of a plan: a line has none
+abbrev pub WorksPlan : Option (List ℕ) → Option (List ℕ) → Span → Plan → Result ℕ Stop → Type 0
+WorksPlan before after span (Line bytes) result = IsIdle span
+WorksPlan before after span (Blocks task program items) result =
+    WorksBlocks task.form (domain_of task) task.rows (Ok program ∷ behind program items.items) before after span result
+
+-- a plan's analysis, if it has one, is this task, or that of the words
+abbrev pub IsPlanFor : Task → Plan → Type 0
+IsPlanFor task (Line bytes) = Unit {0}
+IsPlanFor task (Blocks own program items) = own ≡ task
+
+abbrev pub HasTaskBy : List (List ℕ) → Plan → Type 0
+HasTaskBy words (Line bytes) = Unit {0}
+HasTaskBy words (Blocks task program items) = (settings : Settings) × (settings_of words ≡ Some settings) × (task_of settings ≡ task)
 
 -- a plan behind a loaded program, by the script alone
 abbrev pub IsScripted : Task → ProgramView → List ℕ → Plan → Type 0

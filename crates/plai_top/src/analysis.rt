@@ -4,6 +4,7 @@ ghost use Rattle.plai_base.specs.Causes.{Rose};
 ghost use Rattle.plai_session.specs.Programs.{behind};
 ghost use Rattle.plai_top.specs.Scripts.{AreReadable};
 ghost use Rattle.plai_top.specs.Tasks.{domain_of};
+ghost use Rattle.plai_top.specs.Working.{between, WorksBlocks};
 ghost use Rattle.plai_top.specs.Writing.{WritesBlocks};
 
 use crate::blocks::write_blocks;
@@ -33,6 +34,8 @@ pub fn analyse_all<K: Sink, W: Work, L: Ledger>(
     requires depth { (1 ≤ task.depth) × (task.depth ≤ 8) }
     requires readable { AreReadable items.now }
     ensures blocks { WritesBlocks task.form (domain_of task) task.rows (Ok program ∷ behind program items.now) (K.taken sink.old) (K.taken sink.new) result }
+    ensures worked { WorksBlocks task.form (domain_of task) task.rows (Ok program ∷ behind program items.now) (K.taken sink.old) (K.taken sink.new)
+        (between (W.entries work.old) (W.entries work.new) steps.old steps.new) result }
     ensures later { K.faults sink.old ≤ K.faults sink.new }
     ensures failed { IsErrOf result Stop.WriteFault → Rose (K.faults sink.old) (K.faults sink.new) }
 {

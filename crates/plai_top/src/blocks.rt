@@ -1,6 +1,7 @@
 // The blocks of a call: one for the loaded program and one for each edit, written one by one.
 ghost use Rattle.std.specs.Prelude.{◌≡◌, ◌≤◌, ◌⊎◌, ◌∷◌, ◌&&◌, [], ℕ, List, Option, Result, Ok, cond, ◌++◌, Some, IfOk, IfErr, OnOk, IsErrOf};
 ghost use Rattle.plai_base.specs.Causes.{Rose};
+ghost use Rattle.plai_domain.specs.declared.work.WorkEntry.{WorkEntry};
 ghost use Rattle.plai_clauses.specs.Program.{ProgramView};
 ghost use Rattle.plai_clauses.specs.WellFormed.{IsWellFormed};
 ghost use Rattle.plai_clauses.specs.declared.edit_cause.EditCause.{EditCause};
@@ -10,6 +11,7 @@ ghost use Rattle.plai_script.specs.Readable.{IsReadableEdit};
 ghost use Rattle.plai_top.specs.Blocks.{rows_text};
 ghost use Rattle.plai_top.specs.Scripts.{AreReadable};
 ghost use Rattle.plai_top.specs.Plans.{IsPlanStop};
+ghost use Rattle.plai_top.specs.Working.{Span, between, WorksBlocks};
 ghost use Rattle.plai_top.specs.Writing.{WritesText, IsAnswerFor, IsBlockText, WritesBlock, WritesRefused, Wrote, WritesBlocks, shows_table};
 
 use crate::form::Form;
@@ -68,9 +70,9 @@ fn render_answer<D: Domain>(
     text: &mut Vec<u8>,
 ) -> Result<(), AllocError>
     requires { text.old.items ≡ [] }
-    ensures { OnOk result ((given : Result ProgramView EditCause)
-        → IsAnswerFor (D.plain session.now.domain) session.now.limit session.now.program session.now.table answer.now given
-        → IsBlockText form (D.plain session.now.domain) session.now.limit number given text.new.items (shows_table answer.now)) }
+    ensures { OnOk result ((given : Result ProgramView EditCause) (span : Span)
+        → IsAnswerFor (D.plain session.now.domain) session.now.limit number session.now.program session.now.table answer.now span given
+        → IsBlockText form (D.plain session.now.domain) session.now.limit number given span text.new.items (shows_table answer.now)) }
 {
     match answer {
         EditAnswer::Table => render_own(alloc, form, number, session, text),
@@ -88,9 +90,9 @@ fn block_text<D: Domain>(
     session: &Session<D>,
     answer: &EditAnswer,
 ) -> Result<Vec<u8>, AllocError>
-    ensures { IfOk result (λ text. (given : Result ProgramView EditCause)
-        → IsAnswerFor (D.plain session.now.domain) session.now.limit session.now.program session.now.table answer.now given
-        → IsBlockText form (D.plain session.now.domain) session.now.limit number given text.items (shows_table answer.now)) }
+    ensures { IfOk result (λ text. (given : Result ProgramView EditCause) (span : Span)
+        → IsAnswerFor (D.plain session.now.domain) session.now.limit number session.now.program session.now.table answer.now span given
+        → IsBlockText form (D.plain session.now.domain) session.now.limit number given span text.items (shows_table answer.now)) }
 {
     let mut text = Vec::new(alloc);
     render_answer(alloc, form, number, session, answer, &mut text)?;
@@ -118,9 +120,9 @@ fn write_answer<D: Domain, K: Sink>(
     answer: &EditAnswer,
     sink: &mut K,
 ) -> Result<bool, Stop>
-    ensures block { (given : Result ProgramView EditCause)
-        → IsAnswerFor (D.plain session.now.domain) session.now.limit session.now.program session.now.table answer.now given
-        → WritesBlock form (D.plain session.now.domain) session.now.limit number given (K.taken sink.old) (K.taken sink.new) result }
+    ensures block { (given : Result ProgramView EditCause) (span : Span)
+        → IsAnswerFor (D.plain session.now.domain) session.now.limit number session.now.program session.now.table answer.now span given
+        → WritesBlock form (D.plain session.now.domain) session.now.limit number given span (K.taken sink.old) (K.taken sink.new) result }
     ensures stop { IfErr result IsPlanStop }
     ensures later { K.faults sink.old ≤ K.faults sink.new }
     ensures failed { IsErrOf result Stop.WriteFault → Rose (K.faults sink.old) (K.faults sink.new) }
@@ -169,7 +171,8 @@ fn write_item<D: Domain, K: Sink, W: Work, L: Ledger>(
     steps: &mut Steps<L>,
 ) -> Result<bool, Stop>
     requires { IfOk item.now IsReadableEdit }
-    ensures block { WritesBlock form (D.plain session.old.domain) session.old.limit number (judged session.old.program item.now) (K.taken sink.old) (K.taken sink.new) result }
+    ensures block { WritesBlock form (D.plain session.old.domain) session.old.limit number (judged session.old.program item.now)
+        (between (W.entries work.old) (W.entries work.new) steps.old steps.new) (K.taken sink.old) (K.taken sink.new) result }
     ensures formed { OnOk result (IsWellFormed session.new.program) }
     ensures program { OnOk result (session.new.program ≡ kept session.old.program (judged session.old.program item.now)) }
     ensures stop { IfErr result IsPlanStop }
@@ -217,9 +220,12 @@ fn write_items<D: Domain, K: Sink, W: Work, L: Ledger>(
     steps: &mut Steps<L>,
 ) -> Result<u8, Stop>
     requires { AreReadable items.now }
-    ensures blocks { (givens : List (Result ProgramView EditCause)) (before : Option (List ℕ))
-        → Wrote form (D.plain session.domain) session.limit givens before (K.taken sink.old) (behind session.program items.now) 1 is_table
-        → WritesBlocks form (D.plain session.domain) session.limit givens before (K.taken sink.new) result }
+    ensures blocks { (givens : List (Result ProgramView EditCause)) (before : Option (List ℕ)) (begun : Option (List WorkEntry)) (counted : ℕ)
+        → Wrote form (D.plain session.domain) session.limit givens before (K.taken sink.old) (between begun (W.entries work.old) counted steps.old)
+        (behind session.program items.now) 1 is_table
+        → WritesBlocks form (D.plain session.domain) session.limit givens before (K.taken sink.new) result
+        × WorksBlocks form (D.plain session.domain) session.limit givens before (K.taken sink.new)
+        (between begun (W.entries work.new) counted steps.new) result }
     ensures status { IfOk result (λ status. (status ≡ 0) ⊎ (status ≡ 1)) }
     ensures stop { IfErr result IsPlanStop }
     ensures later { K.faults sink.old ≤ K.faults sink.new }
@@ -253,6 +259,8 @@ pub fn write_blocks<D: Domain, K: Sink, W: Work, L: Ledger>(
 ) -> Result<u8, Stop>
     requires { AreReadable items.now }
     ensures blocks { WritesBlocks form (D.plain domain) limit (Ok program ∷ behind program items.now) (K.taken sink.old) (K.taken sink.new) result }
+    ensures worked { WorksBlocks form (D.plain domain) limit (Ok program ∷ behind program items.now) (K.taken sink.old) (K.taken sink.new)
+        (between (W.entries work.old) (W.entries work.new) steps.old steps.new) result }
     ensures status { IfOk result (λ status. (status ≡ 0) ⊎ (status ≡ 1)) }
     ensures stop { IfErr result IsPlanStop }
     ensures later { K.faults sink.old ≤ K.faults sink.new }

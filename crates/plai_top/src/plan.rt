@@ -7,8 +7,10 @@ ghost use Rattle.plai_top.specs.Commands.{AskForMade, IsCommand, IsFitCommand};
 ghost use Rattle.plai_top.specs.Loadings.{IsPrepared, HasLine};
 ghost use Rattle.plai_top.specs.Outcome.{Outcome, IsByWords, IsEarly, IsByScript, IsOutcome, silent};
 ghost use Rattle.plai_top.specs.Outputs.{KeepsWords};
-ghost use Rattle.plai_top.specs.Plans.{IsPlan, IsMadeBy, IsMadePlan, IsFitPlan, HasAnalysis, KeepsEarly, KeepsMade, IsScripted, IsInputStop};
+ghost use Rattle.plai_top.specs.Plans.{IsPlan, IsMadeBy, IsMadePlan, IsFitPlan, IsPlanFor, HasTaskBy, HasAnalysis, IsScripted, IsInputStop};
+ghost use Rattle.plai_top.specs.Plans.{KeepsEarly, KeepsMade};
 ghost use Rattle.plai_top.specs.Stops.{status_of, IsReadEnd};
+ghost use Rattle.plai_top.specs.Tasks.{task_of};
 ghost use Rattle.plai_top.specs.Told.{IfBothTold};
 
 use crate::command::{Command, command_of};
@@ -56,6 +58,7 @@ fn prepare<B: Library>(
         (λ stop. IsReadEnd stop ⊎ IsEarly words files (silent (status_of stop)))) }
     ensures line { IfOk result (λ prepared. HasLine prepared.loading) }
     ensures depth { IfOk result (λ prepared. (1 ≤ prepared.task.depth) × (prepared.task.depth ≤ 8)) }
+    ensures task { IfOk result (λ prepared. prepared.task ≡ task_of settings.now) }
     ensures stop { IfErr result IsInputStop }
     ensures later { B.faults library.old ≤ B.faults library.new }
     ensures failed { IsErrOf result Stop.ReadFault → Rose (B.faults library.old) (B.faults library.new) }
@@ -81,6 +84,7 @@ fn with_script<S: Source>(
 ) -> Result<Plan, Stop>
     ensures plan { IfSome (S.left script.old) (λ text. MatchResult result (IsScripted task program text) (λ stop. IsReadEnd stop ⊎ IsByScript text (silent (status_of stop)))) }
     ensures fit { (1 ≤ task.depth) × (task.depth ≤ 8) → IfOk result IsFitPlan }
+    ensures task { IfOk result (IsPlanFor task) }
     ensures end { IfOk result (λ plan. HasAnalysis plan → IsAtEnd (S.left script.new)) }
     ensures stop { IfErr result IsInputStop }
     ensures later { S.faults script.old ≤ S.faults script.new }
@@ -113,6 +117,7 @@ fn over_files<B: Library, S: Source>(
     ensures unread_script { (words : List (List ℕ)) → IsCommand words settings.now → IfSome (B.files library.old) (λ files. (outcome : Outcome) → IsEarly words files outcome
         → (S.left script.new ≡ S.left script.old) × (S.faults script.new ≡ S.faults script.old)) }
     ensures fit { IfOk result IsFitPlan }
+    ensures task { IfOk result (IsPlanFor (task_of settings.now)) }
     ensures stop { IfErr result IsInputStop }
     ensures end { IfOk result (λ plan. HasAnalysis plan → IsAtEnd (S.left script.new)) }
     ensures library_later { B.faults library.old ≤ B.faults library.new }
@@ -133,6 +138,7 @@ fn made_blocks(alloc: Global, task: Task, count: u32) -> Result<Plan, AllocError
     requires count { (1 ≤ count) × (count ≤ 2000) }
     ensures plan { IfOk result (IsMadeBy task count) }
     ensures fit { (1 ≤ task.depth) × (task.depth ≤ 8) → IfOk result IsFitPlan }
+    ensures task { IfOk result (IsPlanFor task) }
 {
     let program = made_program(alloc, count)?;
     let items = made_edits(alloc, count)?;
@@ -148,6 +154,7 @@ fn over_made(alloc: Global, settings: &Settings, count: u32) -> Result<Plan, Sto
     requires fit { IsFitCommand (Command.Make settings.now count) }
     ensures plan { MatchResult result (IsMadePlan settings.now count) (λ stop. stop ≡ Stop.Memory) }
     ensures fit { IfOk result IsFitPlan }
+    ensures task { IfOk result (IsPlanFor (task_of settings.now)) }
 {
     match made_blocks(alloc, task_of(settings), count) {
         Ok(plan) => Ok(plan),
@@ -167,6 +174,9 @@ pub fn planned<B: Library, S: Source>(
         (IsPlan (texts words.now) files text)
         (λ stop. IsReadEnd stop ⊎ IsOutcome (texts words.now) files text (silent (status_of stop)))) }
     ensures fit { IfOk result IsFitPlan }
+
+    // Whether they tell or not, the domain, the limit and the form are those that the words name.
+    ensures task { IfOk result (HasTaskBy (texts words.now)) }
 
     // What the words and the files decide doesn't depend on the script, nor what the words decide on the files.
     ensures early { IfSome (B.files library.old) (λ files.

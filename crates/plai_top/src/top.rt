@@ -8,8 +8,10 @@ ghost use Rattle.plai_top.specs.Commands.{AskForMade};
 ghost use Rattle.plai_top.specs.Ending.{IsFaultOrComes, EndsByEach, EndsWithin, EndsMade, EndsByWords, EndsEarly, IsSilent, IsBeforeWork, IsStatus, IsMadeStatus};
 ghost use Rattle.plai_top.specs.Headline.{TakesPromised};
 ghost use Rattle.plai_top.specs.Outcome.{Outcome, IsByWords, IsEarly, IsOutcome, OutcomeIsOne};
-ghost use Rattle.plai_top.specs.Plans.{IsFitPlan, HasAnalysis, CarriesOut, IsPlanStatus, IsPlanStop};
+ghost use Rattle.plai_top.specs.Plans.{IsFitPlan, HasAnalysis, CarriesOut, WorksPlan, IsPlanStatus, IsPlanStop};
 ghost use Rattle.plai_top.specs.Told.{IfBothTold};
+ghost use Rattle.plai_top.specs.Worked.{HasWorked};
+ghost use Rattle.plai_top.specs.Working.{between};
 
 use crate::analysis::analyse_all;
 use crate::laws::printed_rows_describe_runs;
@@ -39,6 +41,7 @@ fn carry_out<K: Sink, W: Work, L: Ledger>(
 ) -> Result<u8, Stop>
     requires { IsFitPlan plan }
     ensures written { CarriesOut (K.taken sink.old) (K.taken sink.new) plan result }
+    ensures worked { WorksPlan (K.taken sink.old) (K.taken sink.new) (between (W.entries work.old) (W.entries work.new) steps.old steps.new) plan result }
     ensures status { IfOk result (IsPlanStatus plan) }
     ensures stop { IfErr result IsPlanStop }
     ensures later { K.faults sink.old ≤ K.faults sink.new }
@@ -138,7 +141,13 @@ pub fn run<B: Library, S: Source, K: Sink, W: Work, L: Ledger>(
     ensures end { (result ≡ 0) ⊎ (result ≡ 1) → IsAtEnd (S.left script.new) ⊎ AskForMade (texts words.now) }
     ensures nothing { IsSilent result → Keeps (K.taken sink.old) (K.taken sink.new) }
 
-    // Work and steps are those of the analysis.
+    // The work that is told is that of the blocks, whether or not library and script tell. At 0 and 1, and for a made program too:
+    // the loaded program and each accepted edit have a mark with the block's number, and behind it a legal log, which ends where the
+    // block is a table, and else stops by the cause that the block names; a refused edit notes nothing and takes no step; and the
+    // steps are at most the sum of what these logs cost. At 6 and 7 it is that of the first blocks, and then of one whose block was
+    // not written, or whose work was cut off in a legal log. Before the analysis nothing is noted, and no step is taken.
+    ensures worked { HasWorked (texts words.now) (B.files library.old) (S.left script.old) result (K.taken sink.old) (K.taken sink.new)
+        (between (W.entries work.old) (W.entries work.new) steps.old steps.new) }
     ensures noted { IsBeforeWork result → W.entries work.new ≡ W.entries work.old }
     ensures steps { IsBeforeWork result → steps.new ≡ steps.old }
 {

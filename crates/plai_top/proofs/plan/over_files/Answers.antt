@@ -2,6 +2,7 @@ use Rattle.std.proofs.Common.{refl, ap, Err}
 use Rattle.plai_base.specs.Causes.{Rose}
 use Rattle.plai_top.proofs.Deciding.{as_program, as_line, stop_outcome, line_outcome, script_plan, program_keeps_early, program_unread, line_keeps_early}
 use Rattle.plai_top.proofs.Deciding.{stop_keeps_early}
+use Rattle.plai_top.proofs.Worked.{task_for}
 use Rattle.plai_top.proofs.plan.over_files.Goals as goal
 
 pub returns-in-Program-clause-outcome : goal.returns-in-Program-clause-outcome
@@ -44,3 +45,8 @@ returns-in-Refused-clause-early g c = λ words command.
     let told = g.B.Library.files c.args.library.now in
     line_keeps_early words told c.in-Refused.bytes (Rose (g.B.Library.faults c.args.library.now) (g.B.Library.faults c.prepare.new.library))
     (as_line words told c.in-Ok.field-0 (c.in-Ok.ensures.outcome words command) c.in-Refused.bytes c.in-Refused.is)
+
+pub returns-in-Program-clause-task : goal.returns-in-Program-clause-task
+returns-in-Program-clause-task g c =
+    let made = c.in-Ok.field-0 in
+    task_for made.task _ c.in-Ok.ensures.task c.with_script.result c.with_script.ensures.task
