@@ -20,7 +20,8 @@ use Rattle.plai_builtins.proofs.Composed.{Composed, Kept, nothing_done, at_none,
 use Rattle.plai_builtins.proofs.Constructed.{functor_by, argument_by, univ_by}
 use Rattle.plai_builtins.proofs.Copied.{copy_allowed}
 use Rattle.plai_builtins.proofs.TermKinds.{atomic_ground}
-use Rattle.plai_builtins.proofs.Tests.{by_variable, by_no_variable, by_compound, by_integer, by_ground, atom_ground, by_same, by_unifier, by_clash, value_by, compared_by}
+use Rattle.plai_builtins.proofs.Tests.{by_variable, by_no_variable, by_compound, by_integer, by_ground, atom_ground, by_same, by_unifier, by_clash, value_by}
+use Rattle.plai_builtins.proofs.Tests.{compared_by}
 
 module _ (n : ℕ) (s : Bindings) where
   -- a comparison of two terms that does nothing
@@ -44,7 +45,8 @@ module _ (n : ℕ) (s : Bindings) where
   builtin_allowed builtin.Var args below = at_one n s (builtin_actions builtin.Var) _ (by_variable n s) args
   builtin_allowed builtin.Nonvar args below = at_one n s (builtin_actions builtin.Nonvar) _ (by_no_variable n s) args
   builtin_allowed builtin.Atom args below = at_one n s (builtin_actions builtin.Atom) _ (λ t. by_ground n s t (is_atom (out-Term t)) (atom_ground n s t)) args
-  builtin_allowed builtin.Atomic args below = at_one n s (builtin_actions builtin.Atomic) _ (λ t. by_ground n s t (is_atom (out-Term t) || is_integer (out-Term t)) (atomic_ground t)) args
+  builtin_allowed builtin.Atomic args below =
+      at_one n s (builtin_actions builtin.Atomic) _ (λ t. by_ground n s t (is_atom (out-Term t) || is_integer (out-Term t)) (atomic_ground t)) args
   builtin_allowed builtin.Ground args below = at_one n s (builtin_actions builtin.Ground) _ (λ t. by_ground n s t (is_ground t) (λ e. e)) args
   builtin_allowed builtin.Integer args below = at_one n s (builtin_actions builtin.Integer) _ (by_integer n s) args
   builtin_allowed builtin.Compound args below = at_one n s (builtin_actions builtin.Compound) _ (by_compound n s) args
@@ -55,8 +57,10 @@ module _ (n : ℕ) (s : Bindings) where
   builtin_allowed builtin.ValueLessOrEqual args below = at_two n s (builtin_actions builtin.ValueLessOrEqual) _ (λ l r. compared_by n s l r Le) args
   builtin_allowed builtin.ValueGreater args below = at_two n s (builtin_actions builtin.ValueGreater) _ (λ l r. compared_by n s l r Gt) args
   builtin_allowed builtin.ValueGreaterOrEqual args below = at_two n s (builtin_actions builtin.ValueGreaterOrEqual) _ (λ l r. compared_by n s l r Ge) args
-  builtin_allowed builtin.Functor args below = at_three n s (builtin_actions builtin.Functor) _ (λ t x y under. functor_by n s t x y (out-Term t) under (sym (roll-out-Term t))) args below
-  builtin_allowed builtin.Arg args below = at_three n s (builtin_actions builtin.Arg) _ (λ k t a under. argument_by n s k t a (out-Term t) (sym (roll-out-Term t))) args below
+  builtin_allowed builtin.Functor args below =
+      at_three n s (builtin_actions builtin.Functor) _ (λ t x y under. functor_by n s t x y (out-Term t) under (sym (roll-out-Term t))) args below
+  builtin_allowed builtin.Arg args below =
+      at_three n s (builtin_actions builtin.Arg) _ (λ k t a under. argument_by n s k t a (out-Term t) (sym (roll-out-Term t))) args below
   builtin_allowed builtin.Univ args below = at_two n s (builtin_actions builtin.Univ) _ (λ t l. univ_by n s t l (out-Term t) (sym (roll-out-Term t))) args
   builtin_allowed builtin.CopyTerm args below = at_two n s (builtin_actions builtin.CopyTerm) _ (λ t c. copy_allowed n t c s) args
 

@@ -1,5 +1,6 @@
 -- What a builtin's actions speak of, and small lists of actions.
-use Rattle.std.proofs.Common.{◌≡◌, ℕ, ◌≤◌, ◌<◌, ◌^◌, ◌&&◌, true, false, nat_eq, nat_le, nat_lt, Bool, lit≤, eqb-true, Option, Some, None, List, [], ◌∷◌, length, refl, subst, inl, inr, arith}
+use Rattle.std.proofs.Common.{◌≡◌, ℕ, ◌≤◌, ◌<◌, ◌^◌, ◌&&◌, true, false, nat_eq, nat_le, nat_lt, Bool, lit≤, eqb-true, Option, Some, None, List, [], ◌∷◌}
+use Rattle.std.proofs.Common.{length, refl, subst, inl, inr, arith}
 use Rattle.std.specs.List.{list_all}
 use Rattle.std.specs.Option.{is_some}
 use Rattle.std.specs.Cmp.Lexicographic.{pointwise}

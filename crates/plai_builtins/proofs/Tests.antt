@@ -17,7 +17,8 @@ use Rattle.plai_values.specs.declared.comparison.Comparison.TheVariants.{Eq}
 use Rattle.plai_values.specs.Values.{value_of}
 use Rattle.plai_values.specs.TermOrder.{term_order, compares_terms}
 use Rattle.plai_values.proofs.OrderLaws.{told_by_order}
-use Rattle.plai_builtins.specs.Meaning.{Never, Test, Solve, Apart, refuted, Meets, is_variable, is_integer, is_atom, is_compound, compared, value_test, term_test}
+use Rattle.plai_builtins.specs.Meaning.{Never, Test, Solve, Apart, refuted, Meets, is_variable, is_integer, is_atom, is_compound, compared, value_test}
+use Rattle.plai_builtins.specs.Meaning.{term_test}
 use Rattle.plai_builtins.proofs.Composed.{Composed, Kept, nothing, by_passing, idle_one, grounded}
 use Rattle.plai_builtins.proofs.Equated.{unified, value_allowed}
 use Rattle.plai_builtins.proofs.TermKinds.{variable_is, is_no_variable, integer_is, atomic_ground, compound_no_variable}

@@ -1,6 +1,7 @@
 pub mod Places
 pub mod Steps
 pub mod Growths
+pub mod LiveRows
 pub mod Working
 pub mod Waiting
 pub mod Ends

@@ -9,7 +9,7 @@ use Rattle.plai_theory.proofs.Options.{by_test}
 use Rattle.plai_fix.specs.WorkStates.{clause_at, IsMet, IsFull}
 use Rattle.std.proofs.lemmas.Bool.{eq-eqb}
 use Rattle.plai_fix.proofs.Steps.{or_cases}
-use Rattle.plai_fix.proofs.Working.{some_pair}
+use Rattle.plai_fix.proofs.LiveRows.{some_pair}
 
 module _ (d : Domain) (g : Program d) (laws : IsLawful d g) where
   -- A pair that waited has its rows, all live.

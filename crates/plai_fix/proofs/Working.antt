@@ -6,7 +6,7 @@ use Rattle.plai_theory.specs.Domain.{Domain, Program, IsLawful}
 use Rattle.plai_theory.specs.Evaluation.{NameOf}
 use Rattle.plai_theory.specs.LegalWork.{WorkRow, Work, LogEntry, Made, Evaluated, Grew, find, present_source, mentions, new_row, after_evaluating}
 use Rattle.plai_theory.specs.LegalWork.{after_growing, calls_now, next_answer, after, IsDemanded, live_count, IsLegal, after_all}
-use Rattle.plai_theory.specs.Limits.{Limits, IsOverAt, Fits, AllFit}
+use Rattle.plai_theory.specs.Limits.{Limits, IsOverAt}
 use Rattle.plai_theory.proofs.Options.{by_test}
 use Rattle.plai_theory.proofs.Rows.{find_map, find_push}
 use Rattle.plai_theory.proofs.Walk.{after_push, legal_push}
@@ -17,40 +17,7 @@ use Rattle.plai_fix.proofs.Places.{item_map, push_cases, found_at, one_place}
 use Rattle.std.proofs.lemmas.Bool.{eqb-false}
 use Rattle.plai_fix.proofs.Steps.{row_at, cleared, opened, closed}
 use Rattle.plai_fix.proofs.Growths.{grown, made}
-
--- live rows, of which a change of rows makes as many
-live_map : (d : Domain) (f : WorkRow d → WorkRow d) → ((r : WorkRow d) → (f r).live ≡ r.live) → (rows : List (WorkRow d))
-    → live_count d (map f rows) ≡ live_count d rows
-live_map d f keeps [] = refl
-live_map d f keeps (r ∷ rows) = ap₂ (λ (b : Bool) (n : ℕ). cond b 1 0 + n) (keeps r) (live_map d f keeps rows)
-
-live_push : (d : Domain) (rows : List (WorkRow d)) (x : NameOf d) → live_count d (rows ++ new_row d x ∷ []) ≡ live_count d rows + 1
-live_push d [] x = refl
-live_push d (r ∷ rows) x = let k : live_count d (rows ++ new_row d x ∷ []) ≡ live_count d rows + 1 = live_push d rows x in omega arith
-
-fits_push : (d : Domain) (g : Program d) (limits : Limits d) (w : Work d) (es : List (LogEntry d)) (e : LogEntry d) → AllFit d g limits w es
-    → Fits d g limits (after_all d g w es) e → AllFit d g limits w (es ++ e ∷ [])
-fits_push d g limits w [] e fits h = (h, tt)
-fits_push d g limits w (b ∷ es) e fits h = (fits.0, fits_push d g limits (after d g w b) es e fits.1 h)
-
--- a row of a changed list
-at_map : {A : Type 0} {P : Type 0} (f : A → A) (xs : List A) (n : ℕ) (x : A) → item (map f xs) n ≡ Some x → ((y : A) → item xs n ≡ Some y → f y ≡ x → P) → P
-at_map {A} {P} f xs n x e h = at_item (item xs n) refl (sym (item_map f xs n) ∙ e)
-  where
-    at_item : (o : Option A) → item xs n ≡ o → given None (λ y. Some (f y)) o ≡ Some x → P
-    at_item None k u = cc
-    at_item (Some y) k u = h y k cc
-
-pub some_pair : {n i a j : ℕ} → ◌≡◌ {A = Option (ℕ × ℕ)} (Some (n, i)) (Some (a, j)) → (n ≡ a) × (i ≡ j)
-some_pair {n = n} {i = i} e = (ap (fst n) e, ap (snd i) e)
-  where
-    fst : ℕ → Option (ℕ × ℕ) → ℕ
-    fst z None = z
-    fst z (Some p) = p.0
-
-    snd : ℕ → Option (ℕ × ℕ) → ℕ
-    snd z None = z
-    snd z (Some p) = p.1
+use Rattle.plai_fix.proofs.LiveRows.{live_map, live_push, fits_push, at_map}
 
 module _ (d : Domain) (g : Program d) (laws : IsLawful d g) where
   -- a change of rows keeps what is met, where pairs that are not dirty were not dirty and call the same

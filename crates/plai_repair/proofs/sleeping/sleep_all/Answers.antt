@@ -11,7 +11,8 @@ sleep-requires g c =
 pub set_entry-requires : goal.set_entry-requires
 set_entry-requires g c =
     let long : length c.loop-row.table.rows ≡ length c.args.table.now.rows = ap length c.loop-row.invariant ∙ slept_long c.args.table.now.rows c.loop-row.row in
-    let more : length c.sleep.new.self.rows ≡ length c.loop-row.table.rows = ap length c.sleep.ensures.rows ∙ changed_long (with_live false) c.loop-row.table.rows
+    let more : length c.sleep.new.self.rows ≡ length c.loop-row.table.rows =
+    ap length c.sleep.ensures.rows ∙ changed_long (with_live false) c.loop-row.table.rows
     c.loop-row.row in
     omega (arith, long, more, c.loop-row-test.true, c.len-row-end.ensures.len)
 
