@@ -1,65 +1,19 @@
 -- Why legal work that began with no rows stops.
-use Rattle.std.proofs.Common.{
-  ◌≡◌,
-  ℕ,
-  zero,
-  suc,
-  ◌-◌,
-  ◌≤◌,
-  Bool,
-  true,
-  false,
-  cond,
-  List,
-  [],
-  ◌∷◌,
-  ◌++◌,
-  map,
-  length,
-  slice_get,
-  Some,
-  None,
-  sym,
-  refl,
-  ap,
-  ◌∙◌,
-  subst,
-  inl,
-  inr,
-  arith,
-}
+use Rattle.std.proofs.Common.{◌≡◌, ℕ, zero, suc, ◌-◌, ◌≤◌, Bool, true, false, cond, List, [], ◌∷◌, ◌++◌, map, length, slice_get, Some, None, sym, refl, ap}
+use Rattle.std.proofs.Common.{◌∙◌, subst, inl, inr, arith}
 use Rattle.plai_theory.specs.Words.{IsIn, AreDistinct}
 use Rattle.plai_theory.specs.Domain.{Domain, Program, IsLawful, Name}
 use Rattle.plai_theory.specs.Domain as theory
 use Rattle.plai_theory.specs.Evaluation.{NameOf}
 use Rattle.plai_theory.specs.LeastTable.{Row}
-use Rattle.plai_theory.specs.LegalWork.{
-  WorkRow,
-  Work,
-  LogEntry,
-  Made,
-  Woke,
-  Evaluated,
-  Grew,
-  find,
-  present_source,
-  new_row,
-  after_waking,
-  after_evaluating,
-  after_growing,
-  calls_now,
-  after,
-  live_count,
-  IsLegalLog,
-  no_work,
-  after_all,
-}
+use Rattle.plai_theory.specs.LegalWork.{WorkRow, Work, LogEntry, Made, Woke, Evaluated, Grew, find, present_source, new_row, after_waking, after_evaluating}
+use Rattle.plai_theory.specs.LegalWork.{after_growing, calls_now, after, live_count, IsLegalLog, no_work, after_all}
 use Rattle.plai_theory.specs.Count.{HaveOwnNames}
 use Rattle.plai_theory.specs.Claims.{IsStoppedLog}
 use Rattle.plai_theory.specs.Rounds.{IsMade}
 use Rattle.plai_theory.proofs.Rows.{find_name, in_item}
 use Rattle.plai_theory.proofs.Options.{by_test}
-use Rattle.plai_theory.proofs.Count.{own_step}
+use Rattle.plai_theory.proofs.WithinLimit.{own_step}
 use Rattle.plai_terms.specs.declared.abs.Abs.{Abs}
 use Rattle.plai_terms.specs.declared.pred_key.PredKey.{PredKey}
 use Rattle.plai_terms.specs.declared.row_name.RowName.{RowName}

@@ -1,37 +1,6 @@
 -- The rows that calls reach from the entries, where work has ended, are the least table.
-use Rattle.std.proofs.Common.{
-  ◌≡◌,
-  ◌≢◌,
-  ℕ,
-  zero,
-  suc,
-  ◌<◌,
-  ◌≤◌,
-  Bool,
-  true,
-  All,
-  Contains,
-  List,
-  [],
-  ◌∷◌,
-  map,
-  length,
-  get_or,
-  unwrap_or,
-  Option,
-  Some,
-  None,
-  IsSome,
-  sym,
-  refl,
-  ap,
-  ◌∙◌,
-  subst,
-  inl,
-  inr,
-  arith,
-  zero-le,
-}
+use Rattle.std.proofs.Common.{◌≡◌, ◌≢◌, ℕ, zero, suc, ◌<◌, ◌≤◌, Bool, true, All, Contains, List, [], ◌∷◌, map, length, get_or, unwrap_or, Option, Some, None}
+use Rattle.std.proofs.Common.{IsSome, sym, refl, ap, ◌∙◌, subst, inl, inr, arith, zero-le}
 use Rattle.std.specs.List.{AllByRecursion}
 use Rattle.std.specs.List.Sorted.{IsPermutation}
 use Rattle.std.proofs.lemmas.List.Elements.{recursion_from_All}
@@ -41,7 +10,8 @@ use Rattle.plai_theory.specs.Domain.{Name}
 use Rattle.plai_theory.specs.Domain as theory
 use Rattle.plai_theory.specs.LeastTable.{Row, IsOrdered}
 use Rattle.plai_theory.specs.LegalWork.{WorkRow, find, present_source, no_work, after_all, IsNeeded}
-use Rattle.plai_theory.proofs.Logs.{Inv, log_keeps, settle, empty, legal_log_least}
+use Rattle.plai_theory.proofs.Logs.{log_keeps, empty, legal_log_least}
+use Rattle.plai_theory.proofs.Invariant.{Inv, settle}
 use Rattle.plai_theory.proofs.Count.{end_within}
 use Rattle.plai_theory.proofs.Rounds.{map_in}
 use Rattle.plai_terms.specs.declared.abs.Abs.{Abs}

@@ -6,35 +6,14 @@ use Rattle.plai_theory.specs.Evaluation.{NameOf, name_of, answer_of, calls_of, j
 use Rattle.plai_theory.specs.LeastTable.{Row}
 use Rattle.plai_theory.specs.Tables.{source_of}
 use Rattle.plai_theory.specs.Rounds.{IsAsked, IsMade, Begin, Add, Raise, after_raising}
-use Rattle.plai_theory.specs.LegalWork.{
-  WorkRow,
-  Work,
-  LogEntry,
-  Made,
-  Woke,
-  Evaluated,
-  Grew,
-  find,
-  present_source,
-  new_row,
-  after_waking,
-  after_evaluating,
-  after_growing,
-  calls_now,
-  next_answer,
-  after,
-  IsLegal,
-  IsLegalLog,
-  IsDemanded,
-  no_work,
-  after_all,
-}
+use Rattle.plai_theory.specs.LegalWork.{WorkRow, Work, LogEntry, Made, Woke, Evaluated, Grew, find, present_source, new_row, after_waking, after_evaluating}
+use Rattle.plai_theory.specs.LegalWork.{after_growing, calls_now, next_answer, after, IsLegal, IsLegalLog, IsDemanded, no_work, after_all}
 use Rattle.plai_theory.specs.Count.{HaveOwnNames}
 use Rattle.plai_theory.proofs.Options.{by_test}
 use Rattle.plai_theory.proofs.Eval.{same_answer, same_called}
 use Rattle.plai_theory.proofs.Rounds.{map_in}
 use Rattle.plai_theory.proofs.Rows.{find_name, item_in, in_item}
-use Rattle.plai_theory.proofs.Count.{own_step}
+use Rattle.plai_theory.proofs.WithinLimit.{own_step}
 use Rattle.plai_fix.proofs.Places.{found_at}
 
 -- a row under work as a row

@@ -1,36 +1,6 @@
 -- Members of lists of numbers, and their places.
-use Rattle.std.proofs.Common.{
-  ◌≡◌,
-  ◌≢◌,
-  ◌⊎◌,
-  ℕ,
-  zero,
-  suc,
-  ◌+◌,
-  ◌<◌,
-  Bool,
-  true,
-  false,
-  ◌||◌,
-  nat_eq,
-  eqb-true,
-  List,
-  [],
-  ◌∷◌,
-  ◌++◌,
-  length,
-  get_or,
-  Option,
-  Some,
-  None,
-  sym,
-  refl,
-  ap,
-  subst,
-  inl,
-  inr,
-  arith,
-}
+use Rattle.std.proofs.Common.{◌≡◌, ◌≢◌, ◌⊎◌, ℕ, zero, suc, ◌+◌, ◌<◌, Bool, true, false, ◌||◌, nat_eq, eqb-true, List, [], ◌∷◌, ◌++◌, length, get_or, Option}
+use Rattle.std.proofs.Common.{Some, None, sym, refl, ap, subst, inl, inr, arith}
 use Rattle.std.proofs.lemmas.Bool.{eq-eqb}
 use Rattle.plai_theory.specs.Words.{IsIn, AreDistinct, HasSome, item}
 use Rattle.plai_theory.proofs.Options.{by_test}

@@ -7,7 +7,8 @@ use Rattle.plai_theory.specs.LegalWork.{WorkRow, find, present_source, no_work, 
 use Rattle.plai_theory.specs.Limits.{Limits}
 use Rattle.plai_theory.specs.Stages.{Reaches, AtEntry, ByCall}
 use Rattle.plai_theory.proofs.Rows.{find_name, item_in}
-use Rattle.plai_theory.proofs.Logs.{log_keeps, settle, empty}
+use Rattle.plai_theory.proofs.Logs.{log_keeps, empty}
+use Rattle.plai_theory.proofs.Invariant.{settle}
 use Rattle.plai_fix.specs.WorkStates.{KeptRow, Keeping, KeepsRow, AtBoth, IsNamed, clause_at}
 use Rattle.plai_fix.proofs.Places.{place_of, found_at, one_place, have, in_both, has_some}
 use Rattle.plai_analysis.specs.Solved.{IsSolved}

@@ -1,36 +1,6 @@
 -- Rows of a table over a domain's own values beside the rows of patterns that they stand for.
-use Rattle.std.proofs.Common.{
-  ◌≡◌,
-  ◌∙◌,
-  ℕ,
-  zero,
-  suc,
-  ◌+◌,
-  ◌<◌,
-  Bool,
-  true,
-  List,
-  [],
-  ◌∷◌,
-  ◌++◌,
-  map,
-  length,
-  take,
-  get_or,
-  slice_get,
-  unwrap_or,
-  Option,
-  Some,
-  None,
-  IsSome,
-  Bor,
-  IfSome,
-  sym,
-  refl,
-  ap,
-  subst,
-  arith,
-}
+use Rattle.std.proofs.Common.{◌≡◌, ◌∙◌, ℕ, zero, suc, ◌+◌, ◌<◌, Bool, true, List, [], ◌∷◌, ◌++◌, map, length, take, get_or, slice_get, unwrap_or, Option}
+use Rattle.std.proofs.Common.{Some, None, IsSome, Bor, IfSome, sym, refl, ap, subst, arith}
 use Rattle.std.specs.Option.{option_map, option_copied}
 use Rattle.std.proofs.lemmas.List.{take_more}
 use Rattle.std.proofs.lemmas.Option.{slice_get_within}

@@ -4,6 +4,8 @@
 #[cfg(test)]
 mod cases;
 #[cfg(test)]
+mod counts;
+#[cfg(test)]
 mod engines;
 #[cfg(test)]
 mod limits;

@@ -1,29 +1,6 @@
 -- Changes of lists at places.
-use Rattle.std.proofs.Common.{
-  ◌≡◌,
-  ℕ,
-  ◌+◌,
-  ◌-◌,
-  ◌<◌,
-  ◌≤◌,
-  Bool,
-  true,
-  false,
-  cond,
-  ◌&&◌,
-  nat_eq,
-  List,
-  [],
-  length,
-  slice_set,
-  slice_index_or,
-  refl,
-  sym,
-  ap,
-  ◌∙◌,
-  subst,
-  arith,
-}
+use Rattle.std.proofs.Common.{◌≡◌, ℕ, ◌+◌, ◌-◌, ◌<◌, ◌≤◌, Bool, true, false, cond, ◌&&◌, nat_eq, List, [], length, slice_set, slice_index_or, refl, sym, ap}
+use Rattle.std.proofs.Common.{◌∙◌, subst, arith}
 use Rattle.std.proofs.lemmas.Bool.{eqb-true}
 use Rattle.plai_arcs.specs.declared.change.Change.{Change}
 use Rattle.plai_arcs.specs.declared.change.Change.TheVariants.{Push, Take, Rename, Mark}

@@ -1,37 +1,6 @@
 -- Calls taken away at both ends.
-use Rattle.std.proofs.Common.{
-  ◌≡◌,
-  ℕ,
-  zero,
-  suc,
-  ◌+◌,
-  ◌<◌,
-  ◌≤◌,
-  ◌≢◌,
-  ◌⊎◌,
-  inl,
-  inr,
-  Bool,
-  true,
-  false,
-  cond,
-  ◌&&◌,
-  nat_eq,
-  Option,
-  None,
-  Some,
-  IfNone,
-  List,
-  [],
-  length,
-  refl,
-  sym,
-  ap,
-  ◌∙◌,
-  subst,
-  add-zero,
-  arith,
-}
+use Rattle.std.proofs.Common.{◌≡◌, ℕ, zero, suc, ◌+◌, ◌<◌, ◌≤◌, ◌≢◌, ◌⊎◌, inl, inr, Bool, true, false, cond, ◌&&◌, nat_eq, Option, None, Some, IfNone, List}
+use Rattle.std.proofs.Common.{[], length, refl, sym, ap, ◌∙◌, subst, add-zero, arith}
 use Rattle.std.specs.List.{count_by, swap_remove}
 use Rattle.std.proofs.lemmas.Bool.{eqb-true, eq-eqb}
 use Rattle.plai_arcs.specs.declared.row_calls.RowCalls.{RowCalls}

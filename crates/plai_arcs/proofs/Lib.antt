@@ -5,5 +5,6 @@ pub mod CountLemmas
 pub mod ChangeLemmas
 pub mod CutLemmas
 pub mod JoinLemmas
+pub mod SwapLemmas
 pub mod RenameLemmas
 pub mod ArcLemmas

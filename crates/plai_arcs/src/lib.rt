@@ -9,6 +9,7 @@ mod dirty_row;
 mod finds;
 mod links;
 mod marks;
+mod renames;
 mod row_calls;
 
 pub use arcs::Arcs;

@@ -1,28 +1,6 @@
 -- Rows that are put last in their predicates' groups.
-use Rattle.std.proofs.Common.{
-  ◌≡◌,
-  ◌∙◌,
-  Bool,
-  true,
-  false,
-  cond,
-  List,
-  [],
-  ◌∷◌,
-  ◌++◌,
-  append-nil,
-  Option,
-  Some,
-  None,
-  unwrap_or,
-  map,
-  filter,
-  All,
-  refl,
-  sym,
-  ap,
-  subst,
-}
+use Rattle.std.proofs.Common.{◌≡◌, ◌∙◌, Bool, true, false, cond, List, [], ◌∷◌, ◌++◌, append-nil, Option, Some, None, unwrap_or, map, filter, All, refl, sym}
+use Rattle.std.proofs.Common.{ap, subst}
 use Rattle.std.specs.Map.{lookup, set_value}
 use Rattle.indexmap.specs.IndexMap.{insert_entry}
 use Rattle.plai_theory.proofs.Options.{by_test}

@@ -1,30 +1,6 @@
 -- The sets are the ascending lists without repeats of masks below the bound.
-use Rattle.std.proofs.Common.{
-  ◌≡◌,
-  ℕ,
-  zero,
-  suc,
-  ◌≤◌,
-  ◌<◌,
-  Bool,
-  true,
-  false,
-  ◌||◌,
-  nat_eq,
-  cond,
-  List,
-  [],
-  ◌∷◌,
-  ◌++◌,
-  refl,
-  sym,
-  ap,
-  ◌∙◌,
-  inl,
-  inr,
-  arith,
-  subst,
-}
+use Rattle.std.proofs.Common.{◌≡◌, ℕ, zero, suc, ◌≤◌, ◌<◌, Bool, true, false, ◌||◌, nat_eq, cond, List, [], ◌∷◌, ◌++◌, refl, sym, ap, ◌∙◌, inl, inr, arith}
+use Rattle.std.proofs.Common.{subst}
 use Rattle.std.proofs.lemmas.Bool.{eq-eqb, eqb-true, ne_eqb, or_cases, or_left, false≢true, false_from_ne_true, cases_eq}
 use Rattle.std.proofs.lemmas.List.{append-nil}
 use Rattle.plai_base.specs.Sets.{has, kept, IsAscending, IsSet}

@@ -1,31 +1,6 @@
 -- What the bits of a mask say.
-use Rattle.std.proofs.Common.{
-  ◌≡◌,
-  ◌≢◌,
-  ℕ,
-  ◌+◌,
-  ◌^◌,
-  ◌<◌,
-  ◌≤◌,
-  nat_lt,
-  true,
-  false,
-  nat_eq,
-  IsTrue,
-  not,
-  ◌↔◌,
-  bit_and,
-  w64,
-  [],
-  ◌∷◌,
-  ◌++◌,
-  filter,
-  cond,
-  arith,
-  sym,
-  ap,
-  ◌∙◌,
-}
+use Rattle.std.proofs.Common.{◌≡◌, ◌≢◌, ℕ, ◌+◌, ◌^◌, ◌<◌, ◌≤◌, nat_lt, true, false, nat_eq, IsTrue, not, ◌↔◌, bit_and, w64, [], ◌∷◌, ◌++◌, filter, cond}
+use Rattle.std.proofs.Common.{arith, sym, ap, ◌∙◌}
 use Rattle.std.specs.Int.{bit_at, trailing_zeros}
 use Rattle.std.specs.List.{range_with_len}
 use Rattle.std.proofs.lemmas.List.Elements.{filter-append}

@@ -12,6 +12,10 @@ input_reader source = source.reader
 abbrev pub input_faults : {R : Type 0} → InputSource R → ℕ
 input_faults source = source.faults
 
+-- how many reads of a source there were
+abbrev pub input_reads : {R : Type 0} → InputSource R → ℕ
+input_reads source = source.reads
+
 -- the writer of a sink
 abbrev pub output_writer : {W : Type 0} → OutputSink W → W
 output_writer sink = sink.writer

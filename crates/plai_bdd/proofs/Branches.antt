@@ -1,30 +1,6 @@
 -- A list without a branch on a slot stands for a function that does not depend on it.
-use Rattle.std.proofs.Common.{
-  ◌≡◌,
-  ℕ,
-  zero,
-  suc,
-  ◌<◌,
-  Bool,
-  true,
-  false,
-  cond,
-  nat_eq,
-  ◌||◌,
-  ◌-◌,
-  List,
-  [],
-  ◌∷◌,
-  length,
-  get_or,
-  refl,
-  sym,
-  ap,
-  subst,
-  ◌∙◌,
-  true≢false,
-  arith,
-}
+use Rattle.std.proofs.Common.{◌≡◌, ℕ, zero, suc, ◌<◌, Bool, true, false, cond, nat_eq, ◌||◌, ◌-◌, List, [], ◌∷◌, length, get_or, refl, sym, ap, subst, ◌∙◌}
+use Rattle.std.proofs.Common.{true≢false, arith}
 use Rattle.std.specs.List.{list_any}
 use Rattle.plai_base.specs.Mask.{has_slot}
 use Rattle.plai_bdd.specs.declared.node.Node.{Node}

@@ -4,10 +4,12 @@ pub mod Builds
 pub mod Canonical
 pub mod Chains
 pub mod Depends
+pub mod Differing
 pub mod Either
 pub mod Functions
 pub mod Lists
 pub mod Models
+pub mod Noted
 pub mod Same
 pub mod Sets
 pub mod Shown

@@ -1,37 +1,6 @@
 -- Tables of nodes: each node once, children before parents.
-use Rattle.std.proofs.Common.{
-  ◌≡◌,
-  ◌≢◌,
-  ℕ,
-  ◌+◌,
-  ◌<◌,
-  Bool,
-  true,
-  false,
-  cond,
-  not,
-  nat_eq,
-  ◌&&◌,
-  ◌||◌,
-  List,
-  [],
-  ◌∷◌,
-  ◌++◌,
-  length,
-  get_or,
-  fold,
-  refl,
-  sym,
-  ap,
-  subst,
-  ◌∙◌,
-  true≢false,
-  arith,
-  ◌⊎◌,
-  inl,
-  inr,
-  length-append,
-}
+use Rattle.std.proofs.Common.{◌≡◌, ◌≢◌, ℕ, ◌+◌, ◌<◌, Bool, true, false, cond, not, nat_eq, ◌&&◌, ◌||◌, List, [], ◌∷◌, ◌++◌, length, get_or, fold, refl, sym}
+use Rattle.std.proofs.Common.{ap, subst, ◌∙◌, true≢false, arith, ◌⊎◌, inl, inr, length-append}
 use Rattle.std.specs.Bool.{beq}
 use Rattle.std.specs.List.{list_any, position_or_len}
 use Rattle.std.proofs.lemmas.Bool.Decides.{nat_tests}

@@ -1,36 +1,6 @@
 -- The slots that a list of nodes branches on, as a set; a list that is true at all assignments.
-use Rattle.std.proofs.Common.{
-  ◌≡◌,
-  ◌≢◌,
-  ℕ,
-  ◌+◌,
-  ◌^◌,
-  ◌<◌,
-  ◌≤◌,
-  Bool,
-  true,
-  false,
-  ◌||◌,
-  ◌↔◌,
-  IsTrue,
-  nat_eq,
-  bit_or,
-  List,
-  [],
-  ◌∷◌,
-  length,
-  get_or,
-  take,
-  refl,
-  sym,
-  ap,
-  subst,
-  ◌∙◌,
-  ◌⊎◌,
-  inl,
-  inr,
-  arith,
-}
+use Rattle.std.proofs.Common.{◌≡◌, ◌≢◌, ℕ, ◌+◌, ◌^◌, ◌<◌, ◌≤◌, Bool, true, false, ◌||◌, ◌↔◌, IsTrue, nat_eq, bit_or, List, [], ◌∷◌, length, get_or, take}
+use Rattle.std.proofs.Common.{refl, sym, ap, subst, ◌∙◌, ◌⊎◌, inl, inr, arith}
 use Rattle.std.specs.List.{list_any}
 use Rattle.std.specs.Int.{bit_at}
 use Rattle.std.proofs.Math.Bool.{or-true}

@@ -1,45 +1,11 @@
--- The steps of combining two places: leaves, a slot that is placed, a slot that is fixed, and what is noted.
-use Rattle.std.proofs.Common.{
-  true≢false,
-  Result,
-  Ok,
-  Err,
-  IfOk,
-  OnOk,
-  ◌≡◌,
-  ◌≢◌,
-  ℕ,
-  ◌+◌,
-  ◌<◌,
-  ◌≤◌,
-  Bool,
-  true,
-  false,
-  cond,
-  nat_eq,
-  min,
-  ◌||◌,
-  List,
-  get_or,
-  refl,
-  sym,
-  ap,
-  subst,
-  ◌∙◌,
-  arith,
-  ◌⊎◌,
-  inl,
-  inr,
-  Some,
-}
-use Rattle.std.proofs.lemmas.Bool.{and_parts, or_cases}
+-- The steps of combining two places: leaves, a slot that is placed, and a slot that is fixed.
+use Rattle.std.proofs.Common.{true≢false, Result, Ok, Err, IfOk, OnOk, ◌≡◌, ◌≢◌, ℕ, ◌+◌, ◌<◌, ◌≤◌, Bool, true, false, cond, nat_eq, min, ◌||◌, List, get_or}
+use Rattle.std.proofs.Common.{refl, sym, ap, subst, ◌∙◌, arith, ◌⊎◌, inl, inr}
+use Rattle.std.proofs.lemmas.Bool.{or_cases}
 use Rattle.std.proofs.Math.Bool.{and-false, or-true}
-use Rattle.std.proofs.lemmas.Bool.Decides.{nat_tests}
-use Rattle.indexmap.specs.IndexMap.{IndexMap, get, Updates}
 use Rattle.plai_bdd.specs.Assignment.{Assignment}
 use Rattle.plai_bdd.specs.declared.node.Node.{Node}
 use Rattle.plai_bdd.specs.declared.node.Node.TheVariants.{Leaf, Branch}
-use Rattle.plai_bdd.specs.declared.combine.Pair.{Pair}
 use Rattle.plai_bdd.specs.declared.change.Connective.{Connective}
 use Rattle.plai_bdd.specs.declared.change.Connective.TheVariants.{And, Or, Iff}
 use Rattle.plai_bdd.specs.declared.change.Change.{Change}
@@ -47,25 +13,9 @@ use Rattle.plai_bdd.specs.declared.change.Placed.TheVariants.{At, Fixed, Parted}
 use Rattle.plai_bdd.specs.Change.{absorbs, answer_of, placed, can_place, moved, changed, top_of}
 use Rattle.plai_bdd.specs.Tree.{value}
 use Rattle.plai_bdd.specs.Nodes.{place_of, put, tree_at}
-use Rattle.plai_bdd.specs.Table.{
-  no_node,
-  IsTable,
-  IsGrown,
-  IsSource,
-  Answers,
-  Adds,
-  IsMemo,
-  slot_of,
-  leaf_answer,
-  is_absorbing,
-  children_of,
-  joined_place,
-  joined_table,
-  same_pair,
-  least_of,
-  function_of,
-}
-use Rattle.plai_bdd.proofs.Adding.{Answers-grown, Adds-as, Adds-leaf, Adds-join}
+use Rattle.plai_bdd.specs.Table.{no_node, IsTable, IsGrown, IsSource, Adds, slot_of, leaf_answer, is_absorbing, children_of, joined_place, joined_table}
+use Rattle.plai_bdd.specs.Table.{least_of, function_of}
+use Rattle.plai_bdd.proofs.Adding.{Adds-as, Adds-leaf, Adds-join}
 use Rattle.plai_bdd.proofs.Tables.{IsGrown-same, put_grown}
 use Rattle.plai_bdd.proofs.Splits.{IsSplit, top_at_most, top_is, leaf_is, children_split, top_fits, placed_at, placed_fixed, placed_parted, moved_more}
 
@@ -250,40 +200,6 @@ module _ (connective : Connective) (change : Change) (left right : List Node) (i
         let here = placed_parted change slot is in
         Adds-as (omega (arith, least_here, parted_least)) (λ at. sym (split_at at false true (here.1 false at) (here.1 true at))) done
 
--- what is noted stays true as the table grows
-pub memo_grown : {S : Type 0} (connective : Connective) (change : Change) (left right : List Node) (memo : IndexMap Pair ℕ S) (t u : List Node)
-    → IsGrown t u → IsMemo connective change left right memo t → IsMemo connective change left right memo u
-memo_grown connective change left right memo t u g m = record { noted = λ pair place e. Answers-grown g (m.noted pair place e) }
-
-number_is : (a b : ℕ) → nat_eq a b ≡ true → a ≡ b
-number_is a b h = grind (arith, nat_tests)
-
-pair_is : (a b : Pair) → same_pair a b ≡ true → a ≡ b
-pair_is a b h =
-    let p = and_parts (nat_eq a.left b.left) (nat_eq a.right b.right) h in
-    (λ x. record { left = number_is a.left b.left p.0 x; right = number_is a.right b.right p.1 x })
-
-some_is : (a b : ℕ) → Some a ≡ Some b → a ≡ b
-some_is a b h = cc
-
--- a pair is noted
-pub memo_noted : {S : Type 0} (connective : Connective) (change : Change) (left right : List Node) (old new : IndexMap Pair ℕ S) (t : List Node)
-    (pair : Pair) (place : ℕ)
-    → IsMemo connective change left right old t → Updates same_pair old new pair (Some place)
-    → Answers t place (least_of change left right pair.left pair.right) (function_of connective change left right pair.left pair.right)
-    → IsMemo connective change left right new t
-memo_noted {S} connective change left right old new t pair place m up here = record { noted = λ q k e. by q k e (same_pair pair q) refl }
-  where
-    by : (q : Pair) (k : ℕ) → get same_pair new q ≡ Some k → (b : Bool) → same_pair pair q ≡ b
-        → Answers t k (least_of change left right q.left q.right) (function_of connective change left right q.left q.right)
-    by q k e true h =
-        let same = pair_is pair q h in
-        let k_is : place ≡ k = some_is place k (sym up.1 ∙ ap (get same_pair new) same ∙ e) in
-        let P : Pair → Type 0 = λ p. Answers t k (least_of change left right p.left p.right) (function_of connective change left right p.left p.right) in
-        subst P same (subst (λ n. Answers t n (least_of change left right pair.left pair.right)
-        (function_of connective change left right pair.left pair.right)) k_is here)
-    by q k e false h = m.noted q k (sym (up.2 q h) ∙ e)
-
 -- facts on a result's value, taken together
 pub ok_both : {A E : Type 0} (P Q R : A → Type 0) → ((a : A) → P a → Q a → R a) → (r : Result A E) → IfOk r P → IfOk r Q → IfOk r R
 ok_both P Q R f (Ok a) p q = f a p q
@@ -304,13 +220,6 @@ placed_ok {E} {t} {v} {k} {least} {f} u (Ok p) e s a =
     let P : List Node → Type 0 = λ w. Adds t p w least f in
     subst P (sym s) (subst (λ n. Adds t n v least f) (sym e) a)
 placed_ok u (Err x) e s a = tt
-
-pub memo_ok : {E S : Type 0} (connective : Connective) (change : Change) (left right : List Node) (memo : IndexMap Pair ℕ S) (t u v : List Node)
-    (r : Result ℕ E) → OnOk r (u ≡ v)
-    → IsGrown t v → IsMemo connective change left right memo t → OnOk r (IsMemo connective change left right memo u)
-memo_ok connective change left right memo t u v (Ok p) s g m = let P : List Node → Type 0 = λ w. IsMemo connective change left right memo w in
-    subst P (sym s) (memo_grown connective change left right memo t v g m)
-memo_ok connective change left right memo t u v (Err x) s g m = tt
 
 pub join_grown : (slot low high : ℕ) (t : List Node) → IsGrown t (joined_table slot low high t)
 join_grown slot low high t =

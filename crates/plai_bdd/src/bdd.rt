@@ -1,12 +1,10 @@
-ghost use Rattle.std.specs.Prelude.{◌≡◌, ◌<◌, ◌≤◌, ◌+◌, ◌-◌, ◌^◌, ◌&&◌, ◌||◌, ◌↔◌, ◌++◌, ℕ, false, true, nat_eq, IsTrue, IfOk, OnOk, OnErr, length};
+ghost use Rattle.std.specs.Prelude.{◌≡◌, ◌<◌, ◌≤◌, ◌+◌, ◌-◌, ◌&&◌, ◌||◌, ◌↔◌, ◌++◌, ℕ, false, true, IsTrue, IfOk, OnOk, OnErr, length};
 ghost use Rattle.std.specs.Bool.{beq};
 ghost use Rattle.plai_base.specs.Mask.{has_slot};
 ghost use Rattle.plai_bdd.specs.Assignment.{Assignment, IsFree, with_slot};
 ghost use Rattle.plai_bdd.specs.Change.{IsPlaceable, combined};
-ghost use Rattle.plai_bdd.specs.Nodes.{AreSameFunction, HaveSameModels, IsCanonical, IsFunction, IsOver, holds, is_model, root_of};
+ghost use Rattle.plai_bdd.specs.Nodes.{AreSameFunction, HaveSameModels, IsCanonical, IsFunction, IsOver, holds, root_of};
 ghost use Rattle.plai_bdd.specs.Text.{tree_text};
-ghost use Rattle.std.specs.List.{list_any};
-ghost use Rattle.plai_bdd.specs.Table.{slot_of};
 ghost use Rattle.plai_bdd.specs.Slots.{AllTrue, Somewhere, conjunction, quantified, some_slot};
 
 use crate::chain::chain;
@@ -14,8 +12,7 @@ use crate::change::{Change, Connective};
 use crate::combine::{Pair, combine};
 use crate::node::Node;
 use crate::print::write_node;
-use crate::used::{branch_slots, has_branch, is_always};
-use crate::walk::{answer_at, either, implies_at, root_of_either};
+use crate::used::has_branch;
 use indexmap::{IndexMap, IndexSet};
 use plai_base::Mask;
 use std::alloc::{AllocError, Global};
@@ -26,7 +23,7 @@ use std::marker::Model;
 /// node. Contracts see the list, and `holds` of it is the function.
 #[derive(Debug, Drop)]
 pub struct Bdd {
-    nodes: Vec<Node>,
+    pub(crate) nodes: Vec<Node>,
 }
 
 impl Model for Bdd {
@@ -176,21 +173,6 @@ impl Bdd {
         variable.iff(alloc, &conjunction)
     }
 
-    /// The slots that its nodes branch on. It depends on no others.
-    pub fn slots(&self) -> Mask
-        ensures branches { (slot : ℕ) → slot < 64 → has_slot result slot ≡ list_any (λ node. nat_eq (slot_of node) slot) self.now }
-        ensures free { (slot : ℕ) → slot < 64 → has_slot result slot ≡ false → IsFree (holds self.now) slot }
-    {
-        branch_slots(self.nodes.as_slice())
-    }
-
-    /// Whether the function is true at all assignments. Nothing is allocated.
-    pub fn is_always(&self) -> bool
-        ensures { IsTrue result ↔ ((at : Assignment) → IsTrue (holds self.now at)) }
-    {
-        is_always(self.nodes.as_slice())
-    }
-
     /// Whether some node branches on the slot.
     fn branches_on(&self, slot: u32) -> bool
         ensures { result ≡ false → IsFree (holds self.now) slot }
@@ -230,47 +212,6 @@ impl Bdd {
             rest = rest.exists_slot(alloc, slots, k)?;
         }
         Ok(rest)
-    }
-
-    /// Whether each assignment that makes this function true makes the other true. Nothing is allocated.
-    pub fn implies(&self, other: &Bdd) -> bool
-        ensures function { IsTrue result ↔ ((at : Assignment) → IsTrue (holds self.now at) → IsTrue (holds other.now at)) }
-        ensures models { (bound : ℕ) → IsOver bound self.now → IsOver bound other.now
-            → (IsTrue result ↔ ((mask : ℕ) → mask < 2 ^ bound → IsTrue (is_model self.now mask) → IsTrue (is_model other.now mask))) }
-    {
-        let left = self.nodes.as_slice();
-        let right = other.nodes.as_slice();
-        let roots = Pair {
-            left: left.len() - 1,
-            right: right.len() - 1,
-        };
-        implies_at(left, right, roots)
-    }
-
-    /// Whether each assignment that makes the function true makes one of the two slots true, which may be one slot. Nothing is
-    /// allocated.
-    pub fn forces(&self, a: u32, b: u32) -> bool
-        requires a_fits { a < 64 }
-        requires b_fits { b < 64 }
-        ensures function { IsTrue result ↔ ((at : Assignment) → IsTrue (holds self.now at) → IsTrue (at a || at b)) }
-        ensures models { (bound : ℕ) → a < bound → b < bound → IsOver bound self.now
-            → (IsTrue result ↔ ((mask : ℕ) → mask < 2 ^ bound → IsTrue (is_model self.now mask) → IsTrue (has_slot mask a || has_slot mask b))) }
-    {
-        let left = self.nodes.as_slice();
-        let right = either(a.min(b), a.max(b));
-        let roots = Pair {
-            left: left.len() - 1,
-            right: root_of_either(a, b),
-        };
-        implies_at(left, &right, roots)
-    }
-
-    /// Whether the function is true where the slots of the set are true and no others. Nothing is allocated.
-    pub fn is_model(&self, mask: Mask) -> bool
-        ensures { result ≡ is_model self.now mask }
-    {
-        let nodes = self.nodes.as_slice();
-        answer_at(nodes, nodes.len() - 1, mask)
     }
 
     /// Appends the function's text: `t` where it is true at all assignments, `f` where it is at none, and else `(i Y N)`

@@ -8,6 +8,7 @@ mod change;
 mod combine;
 mod node;
 mod print;
+mod questions;
 mod table;
 mod used;
 mod walk;

@@ -1,37 +1,6 @@
 -- Each meaning is a composition of what the builtin's actions allow.
-use Rattle.std.proofs.Common.{
-  ◌≡◌,
-  ◌∙◌,
-  inl,
-  inr,
-  ℕ,
-  zero,
-  suc,
-  ◌+◌,
-  ℤ,
-  pos,
-  Bool,
-  true,
-  false,
-  ◌||◌,
-  not,
-  cond,
-  nat_le,
-  Option,
-  Some,
-  None,
-  List,
-  [],
-  ◌∷◌,
-  length,
-  codes,
-  refl,
-  sym,
-  ap,
-  subst,
-  rules,
-  nat_eq,
-}
+use Rattle.std.proofs.Common.{◌≡◌, ◌∙◌, inl, inr, ℕ, zero, suc, ◌+◌, ℤ, pos, Bool, true, false, ◌||◌, not, cond, nat_le, Option, Some, None, List, [], ◌∷◌}
+use Rattle.std.proofs.Common.{length, codes, refl, sym, ap, subst, rules, nat_eq}
 use Rattle.std.specs.Cmp.Lexicographic.{pointwise}
 use Rattle.std.specs.Ordering.{is_eq}
 use Rattle.std.proofs.lemmas.Bool.Decides.{Decides-eqb}
@@ -62,50 +31,12 @@ use Rattle.plai_values.proofs.OrderLaws.{told_by_order}
 use Rattle.plai_builtins.specs.Actions.{table, actions_of}
 use Rattle.plai_builtins.specs.InTurn.{AllowedInTurn}
 use Rattle.plai_builtins.specs.Lists.{list_of, list_items}
-use Rattle.plai_builtins.specs.Meaning.{
-  Demand,
-  Never,
-  Test,
-  Solve,
-  Apart,
-  tested,
-  refuted,
-  Meets,
-  is_variable,
-  is_integer,
-  is_atom,
-  is_compound,
-  number_up_to,
-  new_variables,
-  construct,
-  functor_at,
-  nth,
-  arg_at,
-  made_by,
-  made_of,
-  univ_at,
-  compared,
-  is_named,
-  nullary,
-  unary,
-  binary,
-  ternary,
-  Means,
-}
+use Rattle.plai_builtins.specs.Meaning.{Demand, Never, Test, Solve, Apart, tested, refuted, Meets, is_variable, is_integer, is_atom, is_compound}
+use Rattle.plai_builtins.specs.Meaning.{number_up_to, new_variables, construct, functor_at, nth, arg_at, made_by, made_of, univ_at, compared, is_named}
+use Rattle.plai_builtins.specs.Meaning.{nullary, unary, binary, ternary, Means}
 use Rattle.plai_builtins.proofs.Copied.{copy_allowed}
-use Rattle.plai_builtins.proofs.Equated.{
-  unified,
-  one_of,
-  int_closed,
-  atom_closed,
-  value_allowed,
-  taken_apart,
-  put_together,
-  new_compound,
-  nothing_new,
-  argument_allowed,
-  list_allowed,
-}
+use Rattle.plai_builtins.proofs.Equated.{unified, one_of, int_closed, atom_closed, value_allowed, taken_apart, put_together, new_compound, nothing_new}
+use Rattle.plai_builtins.proofs.Equated.{argument_allowed, list_allowed}
 use Rattle.plai_builtins.proofs.Grounded.{IsClosed}
 use Rattle.plai_builtins.proofs.TermKinds.{variable_is, is_no_variable, integer_is, atomic_ground, compound_no_variable, number_is}
 use Rattle.plai_builtins.proofs.ListItems.{list_of_there, items_there}

@@ -1,40 +1,6 @@
 -- The variables of a term, by its subterms in preorder.
-use Rattle.std.proofs.Common.{
-  ◌≡◌,
-  inl,
-  inr,
-  ℕ,
-  suc,
-  ◌+◌,
-  ◌<◌,
-  ◌≤◌,
-  Bool,
-  true,
-  false,
-  ◌||◌,
-  not,
-  cond,
-  nat_eq,
-  Some,
-  List,
-  [],
-  ◌∷◌,
-  ◌++◌,
-  map,
-  filter,
-  flat_map,
-  length,
-  take,
-  get_or,
-  refl,
-  sym,
-  ap,
-  subst,
-  ◌∙◌,
-  rules,
-  arith,
-  Bor,
-}
+use Rattle.std.proofs.Common.{◌≡◌, inl, inr, ℕ, suc, ◌+◌, ◌<◌, ◌≤◌, Bool, true, false, ◌||◌, not, cond, nat_eq, Some, List, [], ◌∷◌, ◌++◌, map, filter}
+use Rattle.std.proofs.Common.{flat_map, length, take, get_or, refl, sym, ap, subst, ◌∙◌, rules, arith, Bor}
 use Rattle.std.specs.List.{list_any, AllByRecursion, IsDistinct}
 use Rattle.std.proofs.lemmas.Grind.{flat_map-append}
 use Rattle.std.proofs.lemmas.List.{append-nil, map-append, take_more, length-take-le}

@@ -1,40 +1,6 @@
 -- A clause that a term says is well formed: its terms are parts of the term, and its bounds were tested.
-use Rattle.std.proofs.Common.{
-  ◌≡◌,
-  ◌∙◌,
-  ℕ,
-  ◌+◌,
-  ◌≤◌,
-  Bool,
-  true,
-  false,
-  ◌&&◌,
-  ◌||◌,
-  max,
-  fold,
-  map,
-  Option,
-  Some,
-  None,
-  Result,
-  Ok,
-  Err,
-  List,
-  [],
-  ◌∷◌,
-  ◌++◌,
-  length,
-  refl,
-  sym,
-  ap,
-  subst,
-  inl,
-  inr,
-  arith,
-  rules,
-  if◌then◌else◌,
-  codes,
-}
+use Rattle.std.proofs.Common.{◌≡◌, ◌∙◌, ℕ, ◌+◌, ◌≤◌, Bool, true, false, ◌&&◌, ◌||◌, max, fold, map, Option, Some, None, Result, Ok, Err, List, [], ◌∷◌, ◌++◌}
+use Rattle.std.proofs.Common.{length, refl, sym, ap, subst, inl, inr, arith, rules, if◌then◌else◌, codes}
 use Rattle.std.proofs.lemmas.Bool.{ltb-false, and_parts, and_from}
 use Rattle.std.specs.Prelude.{flat_map, nat_lt, nat_eq, IfOk}
 use Rattle.std.specs.List.{list_all, AllByRecursion}
@@ -54,38 +20,11 @@ use Rattle.plai_clauses.specs.declared.cause.ClauseCause.TheVariants.{NotAClause
 use Rattle.plai_clauses.specs.declared.cause.ClauseFail.{ClauseFail}
 use Rattle.plai_terms.specs.Readable.{IsReadable}
 use Rattle.plai_clauses.specs.Builtins.{is_builtin_key, is_refused_key}
-use Rattle.plai_clauses.specs.ClauseOf.{
-  is_conjunction,
-  goals_of,
-  spoken_of,
-  target_of,
-  head_at,
-  head_of,
-  literal_at,
-  literal_of,
-  body_of,
-  two,
-  two_arguments,
-  widest,
-  within_slots,
-  clause_with,
-  clause_from,
-  clause_in,
-  clause_of,
-  Answers,
-}
+use Rattle.plai_clauses.specs.ClauseOf.{is_conjunction, goals_of, spoken_of, target_of, head_at, head_of, literal_at, literal_of, body_of, two, two_arguments}
+use Rattle.plai_clauses.specs.ClauseOf.{widest, within_slots, clause_with, clause_from, clause_in, clause_of, Answers}
 use Rattle.plai_clauses.specs.WellFormed.{IsTargetOf, IsWellFormedClause}
-use Rattle.plai_clauses.proofs.Bodies.{
-  unless_ok,
-  in_front_all,
-  two_arguments-Compound,
-  named_pair,
-  goals_of-Var,
-  goals_of-Int,
-  goals_of-Atom,
-  goals_of-joined,
-  goals_of-single,
-}
+use Rattle.plai_clauses.proofs.Bodies.{two_arguments-Compound, named_pair, goals_of-Var, goals_of-Int, goals_of-Atom, goals_of-joined, goals_of-single}
+use Rattle.plai_clauses.proofs.PutLiterals.{unless_ok, in_front_all}
 
 -- variables of parts of a term
 

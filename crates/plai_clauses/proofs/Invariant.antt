@@ -7,37 +7,12 @@ use Rattle.plai_clauses.specs.declared.entry.Entry.{Entry}
 use Rattle.plai_clauses.specs.declared.check.Check.{Check}
 use Rattle.plai_clauses.specs.declared.definition.Definition.{Definition}
 use Rattle.plai_clauses.specs.declared.modules.Module.{Module}
-use Rattle.plai_clauses.specs.Program.{
-  ProgramView,
-  empty,
-  pred_of,
-  with_clause,
-  changed_in,
-  place_behind,
-  place_of,
-  homes_of_entries,
-  homes_of_checks,
-  with_module,
-  with_clause_of,
-  without_clause,
-  without_clauses,
-  with_entry,
-  with_check,
-  without_entry,
-  without_check,
-}
+use Rattle.plai_clauses.specs.Program.{ProgramView, empty, pred_of, with_clause, changed_in, place_behind, place_of, homes_of_entries, homes_of_checks}
+use Rattle.plai_clauses.specs.Program.{with_module, with_clause_of, without_clause, without_clauses, with_entry, with_check, without_entry, without_check}
 use Rattle.plai_clauses.specs.WellFormed.{IsWellFormedClause, IsWellFormedEntry, IsWellFormedCheck, IsWellFormed}
 use Rattle.plai_clauses.specs.Invariant.{IsProgram}
-use Rattle.plai_clauses.proofs.Kept.{
-  keeps_with_module,
-  keeps_with_clause,
-  keeps_without_clause,
-  keeps_without_clauses,
-  keeps_with_entry,
-  keeps_without_entry,
-  keeps_with_check,
-  keeps_without_check,
-}
+use Rattle.plai_clauses.proofs.Kept.{keeps_with_module, keeps_with_clause, keeps_without_clause, keeps_without_clauses, keeps_with_entry, keeps_without_entry}
+use Rattle.plai_clauses.proofs.Kept.{keeps_with_check, keeps_without_check}
 use Rattle.plai_clauses.proofs.ByModule.{empty_by_module, by_module_with_entry, by_module_with_check, by_module_without_entry, by_module_without_check}
 
 empty_well_formed : IsWellFormed empty

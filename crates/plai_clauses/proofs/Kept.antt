@@ -9,26 +9,9 @@ use Rattle.plai_clauses.specs.declared.entry.Entry.{Entry}
 use Rattle.plai_clauses.specs.declared.check.Check.{Check}
 use Rattle.plai_clauses.specs.declared.definition.Definition.{Definition}
 use Rattle.plai_clauses.specs.declared.modules.Module.{Module}
-use Rattle.plai_clauses.specs.Program.{
-  ProgramView,
-  same_pred,
-  pred_of,
-  clauses_in,
-  changed_in,
-  with_clause,
-  place_behind,
-  place_of,
-  homes_of_entries,
-  homes_of_checks,
-  with_module,
-  with_clause_of,
-  without_clause,
-  without_clauses,
-  with_entry,
-  with_check,
-  without_entry,
-  without_check,
-}
+use Rattle.plai_clauses.specs.Program.{ProgramView, same_pred, pred_of, clauses_in, changed_in, with_clause, place_behind, place_of, homes_of_entries}
+use Rattle.plai_clauses.specs.Program.{homes_of_checks, with_module, with_clause_of, without_clause, without_clauses, with_entry, with_check, without_entry}
+use Rattle.plai_clauses.specs.Program.{without_check}
 use Rattle.plai_clauses.specs.WellFormed.{IsWellFormedClause, IsWellFormedEntry, IsWellFormedCheck, IsWellFormed}
 use Rattle.plai_clauses.proofs.OneModule.{same_pred-true, clauses_in-with_clause}
 

@@ -1,5 +1,6 @@
 pub mod OneModule
 pub mod Bodies
+pub mod PutLiterals
 pub mod Changes
 pub mod Kept
 pub mod Formed

@@ -1,31 +1,6 @@
 -- The clauses and entries of a program that is one module.
-use Rattle.std.proofs.Common.{
-  ◌≡◌,
-  ℕ,
-  Bool,
-  true,
-  false,
-  ◌&&◌,
-  nat_eq,
-  eqb-true,
-  eq-eqb,
-  List,
-  [],
-  ◌∷◌,
-  ◌++◌,
-  filter,
-  fold,
-  append-nil,
-  append_assoc,
-  sym,
-  refl,
-  ap,
-  ◌∙◌,
-  subst,
-  inl,
-  inr,
-  if◌then◌else◌,
-}
+use Rattle.std.proofs.Common.{◌≡◌, ℕ, Bool, true, false, ◌&&◌, nat_eq, eqb-true, eq-eqb, List, [], ◌∷◌, ◌++◌, filter, fold, append-nil, append_assoc, sym}
+use Rattle.std.proofs.Common.{refl, ap, ◌∙◌, subst, inl, inr, if◌then◌else◌}
 use Rattle.std.specs.Cmp.Lexicographic.{pointwise, same_text, nat_list_eq_equiv}
 use Rattle.plai_theory.specs.Words.{IsIn}
 use Rattle.plai_theory.proofs.Options.{by_test}

@@ -2,46 +2,13 @@
 ghost use Rattle.std.specs.Prelude.{◌≡◌, ◌&&◌, nat_eq};
 ghost use Rattle.std.specs.List.{list_any};
 ghost use Rattle.std.specs.Cmp.Lexicographic.{pointwise};
-ghost use Rattle.plai_clauses.specs.Builtins.{is_key, builtins, refused, is_call, is_builtin_key, is_refused_key, is_definable};
+ghost use Rattle.plai_clauses.specs.Builtins.{is_key, refused, is_call, is_builtin_key, is_refused_key, is_definable};
 
+use crate::builtin::Builtin;
 use plai_terms::Name;
 
 /// The greatest number of arguments of a predicate.
 pub(crate) const MOST_ARGUMENTS: u32 = 16;
-
-const BUILTINS: [(&str, u32); 31] = [
-    ("true", 0),
-    ("!", 0),
-    ("nl", 0),
-    ("write", 1),
-    ("fail", 0),
-    ("=", 2),
-    ("\\=", 2),
-    ("==", 2),
-    ("\\==", 2),
-    ("@<", 2),
-    ("@=<", 2),
-    ("@>", 2),
-    ("@>=", 2),
-    ("var", 1),
-    ("nonvar", 1),
-    ("atom", 1),
-    ("atomic", 1),
-    ("ground", 1),
-    ("integer", 1),
-    ("compound", 1),
-    ("is", 2),
-    ("=:=", 2),
-    ("=\\=", 2),
-    ("<", 2),
-    ("=<", 2),
-    (">", 2),
-    (">=", 2),
-    ("functor", 3),
-    ("arg", 3),
-    ("=..", 2),
-    ("copy_term", 2),
-];
 
 const REFUSED: [(&str, u32); 19] = [
     (";", 2),
@@ -72,19 +39,12 @@ fn is_among(keys: &[(&str, u32)], name: &[u8], arity: u32) -> bool
         .any(|key| key.0.as_bytes() == name && key.1 == arity)
 }
 
-fn is_in_builtin_list(name: &[u8], arity: u32) -> bool
-    ensures { result ≡ list_any (is_key name.now arity) builtins }
-{
-    let keys: [(&str, u32); 31] = BUILTINS;
-    is_among(keys.as_slice(), name, arity)
-}
-
 /// Whether the name with that number of arguments is a builtin predicate, a part of those of
 /// ISO/IEC 13211-1:1995, 8 and 9. It takes no memory.
 pub fn is_builtin(name: &Name, arity: u32) -> bool
     ensures { result ≡ is_builtin_key name.now arity }
 {
-    is_in_builtin_list(name.as_slice(), arity)
+    Builtin::named(name, arity).is_some()
 }
 
 fn is_call(name: &[u8], arity: u32) -> bool

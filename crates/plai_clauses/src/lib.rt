@@ -1,6 +1,7 @@
 //! Clauses, literals and entries, and the keys that no clause may have.
 #![tactic(auto)]
 
+mod builtin;
 mod cause;
 mod check;
 mod clause;
@@ -16,6 +17,7 @@ mod laws;
 mod modules;
 mod program;
 
+pub use builtin::Builtin;
 pub use cause::{ClauseCause, ClauseFail};
 pub use check::{Check, CheckKind};
 pub use clause::{Clause, Literal, Target};

@@ -32,20 +32,8 @@ use Rattle.plai_depth_laws.proofs.Moves.{pull_keeps, pulls_keep, push_greatest, 
 use Rattle.plai_depth_laws.proofs.Closed.{cuts_up}
 use Rattle.plai_depth_laws.proofs.Described.{shape, shape-Var, all_described_under, all_under_described}
 use Rattle.plai_depth_laws.proofs.Instances.{shapes, length_numbers, shape_pulled, shapes_pulled, lowered, shapes_lowered, argument_is, variable_is}
-use Rattle.plai_depth_laws.proofs.States.{
-  LeqCut-refl,
-  value_pulled,
-  value_pushed,
-  value_any,
-  value_integer,
-  value_unified,
-  argument_below,
-  one_below,
-  one_push,
-  unified_parts,
-  unify_greatest,
-  free_some,
-}
+use Rattle.plai_depth_laws.proofs.States.{LeqCut-refl, value_pulled, value_pushed, value_any, value_integer, value_unified, argument_below, one_below}
+use Rattle.plai_depth_laws.proofs.States.{one_push, unified_parts, unify_greatest, free_some}
 use Rattle.plai_depth_laws.proofs.Laws.{leq_of, right, below_of, describe_value}
 use Rattle.plai_depth_laws.proofs.Properties.{shape_integer, describe_above, entails_sound, excludes_sound}
 

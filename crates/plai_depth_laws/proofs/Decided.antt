@@ -4,15 +4,8 @@ use Rattle.std.specs.Bool.{Decides}
 use Rattle.std.specs.List.{AllByRecursion}
 use Rattle.std.proofs.lemmas.Bool.{false≢true, and_parts}
 use Rattle.std.proofs.lemmas.List.{length-map}
-use Rattle.plai_terms.specs.declared.skeleton.Skeleton.{
-  Skeleton,
-  out-Skeleton,
-  roll-Skeleton,
-  out-roll-Skeleton,
-  roll-out-Skeleton,
-  map-Skeleton,
-  fold-roll-Skeleton,
-}
+use Rattle.plai_terms.specs.declared.skeleton.Skeleton.{Skeleton, out-Skeleton, roll-Skeleton, out-roll-Skeleton, roll-out-Skeleton, map-Skeleton}
+use Rattle.plai_terms.specs.declared.skeleton.Skeleton.{fold-roll-Skeleton}
 use Rattle.plai_terms.specs.declared.skeleton.Skeleton.TheOpen.{Skeleton-F}
 use Rattle.plai_terms.proofs.Same.{names_equal}
 use Rattle.plai_terms.proofs.Skeletons.{arguments, induction}

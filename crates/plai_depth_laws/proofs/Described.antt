@@ -1,26 +1,11 @@
 -- A skeleton describes a term where the term's own skeleton, with `any` for its variables, lies at or below it.
 use Rattle.std.proofs.Common.{◌≡◌, inl, inr, ℕ, ℤ, List, [], ◌∷◌, map, sym, ap, ◌∙◌, rules}
 use Rattle.std.specs.List.{AllByRecursion}
-use Rattle.plai_terms.specs.declared.term.Term.{
-  Term,
-  out-Term,
-  roll-Term,
-  roll-out-Term,
-  Var,
-  Int as number_term,
-  Atom as constant,
-  Compound as structure,
-  the_lemmas,
-}
+use Rattle.plai_terms.specs.declared.term.Term.{Term, out-Term, roll-Term, roll-out-Term, Var, Int as number_term, Atom as constant, Compound as structure}
+use Rattle.plai_terms.specs.declared.term.Term.{the_lemmas}
 use Rattle.plai_terms.specs.declared.term.Term.TheOpen.{Term-F}
-use Rattle.plai_terms.specs.declared.term.Term.TheVariants.{
-  rolls-Int,
-  rolls-Atom,
-  rolls-Compound,
-  outs-Int as outs-number,
-  outs-Atom as outs-constant,
-  outs-Compound as outs-structure,
-}
+use Rattle.plai_terms.specs.declared.term.Term.TheVariants.{rolls-Int, rolls-Atom, rolls-Compound, outs-Int as outs-number, outs-Atom as outs-constant}
+use Rattle.plai_terms.specs.declared.term.Term.TheVariants.{outs-Compound as outs-structure}
 use Rattle.plai_terms.specs.Substitution.{under}
 use Rattle.plai_terms.proofs.Terms.{induction}
 use Rattle.plai_terms.proofs.Under.{under-Compound}

@@ -4,19 +4,8 @@ use Rattle.std.specs.Cmp.Lexicographic.{pointwise}
 use Rattle.std.specs.Ordering.{int_eq}
 use Rattle.std.proofs.lemmas.Bool.{eqb-true, eq-eqb}
 use Rattle.std.proofs.lemmas.Bool.Decides.{Decides-int_eq}
-use Rattle.plai_terms.specs.declared.skeleton.Skeleton.{
-  Skeleton,
-  out-Skeleton,
-  roll-Skeleton,
-  map-Skeleton,
-  fold-roll-Skeleton,
-  roll-out-Skeleton,
-  Any,
-  Integer,
-  Int,
-  Atom,
-  Compound,
-}
+use Rattle.plai_terms.specs.declared.skeleton.Skeleton.{Skeleton, out-Skeleton, roll-Skeleton, map-Skeleton, fold-roll-Skeleton, roll-out-Skeleton, Any}
+use Rattle.plai_terms.specs.declared.skeleton.Skeleton.{Integer, Int, Atom, Compound}
 use Rattle.plai_terms.specs.declared.skeleton.Skeleton.TheOpen.{Skeleton-F}
 use Rattle.plai_terms.specs.declared.skeleton.Skeleton.TheVariants.{outs-Any, outs-Integer, outs-Int, outs-Atom, outs-Compound}
 use Rattle.plai_terms.proofs.Same.{both, names_equal}

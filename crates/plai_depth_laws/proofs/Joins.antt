@@ -4,36 +4,15 @@ use Rattle.std.specs.Cmp.Lexicographic.{pointwise}
 use Rattle.std.specs.Ordering.{int_eq}
 use Rattle.std.specs.List.{AllByRecursion}
 use Rattle.std.proofs.lemmas.List.{length-map}
-use Rattle.plai_terms.specs.declared.skeleton.Skeleton.{
-  Skeleton,
-  out-Skeleton,
-  roll-Skeleton,
-  out-roll-Skeleton,
-  map-Skeleton,
-  Any,
-  Integer,
-  Int,
-  Atom,
-  Compound,
-}
+use Rattle.plai_terms.specs.declared.skeleton.Skeleton.{Skeleton, out-Skeleton, roll-Skeleton, out-roll-Skeleton, map-Skeleton, Any, Integer, Int, Atom}
+use Rattle.plai_terms.specs.declared.skeleton.Skeleton.{Compound}
 use Rattle.plai_terms.specs.declared.skeleton.Skeleton.TheOpen.{Skeleton-F}
 use Rattle.plai_terms.specs.declared.skeleton.Skeleton.TheVariants.{outs-Any, outs-Integer, outs-Int, outs-Compound}
 use Rattle.plai_terms.proofs.Skeletons.{arguments, induction}
 use Rattle.plai_depth_laws.specs.Skeletons.{same_functor, join_args, join_layer, join}
 use Rattle.plai_depth_laws.specs.Order.{IsUnder, same, any, integer, compound, AreUnder, none, more}
-use Rattle.plai_depth_laws.proofs.Equations.{
-  is-Any,
-  is-Integer,
-  is-Int,
-  is-Atom,
-  is-Compound,
-  join_at,
-  integers_equal,
-  integer_itself,
-  name_itself,
-  functors_equal,
-  functor_itself,
-}
+use Rattle.plai_depth_laws.proofs.Equations.{is-Any, is-Integer, is-Int, is-Atom, is-Compound, join_at, integers_equal, integer_itself, name_itself}
+use Rattle.plai_depth_laws.proofs.Equations.{functors_equal, functor_itself}
 use Rattle.plai_terms.proofs.Same.{names_equal}
 use Rattle.plai_depth_laws.proofs.Order.{length-AreUnder}
 

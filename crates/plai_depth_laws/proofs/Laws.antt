@@ -14,20 +14,8 @@ use Rattle.plai_depth_laws.specs.Moves.{push_all}
 use Rattle.plai_depth_laws.specs.Operations.{enter_of, refine_of}
 use Rattle.plai_depth_laws.specs.DepthK.{skeletons_of, LeqCut, Leq, Below, state_with, state_from, depth_k}
 use Rattle.plai_depth_laws.proofs.Rank.{ranks_fall}
-use Rattle.plai_depth_laws.proofs.States.{
-  LeqCut-trans,
-  LeqCut-antisym,
-  LeqCut-refl,
-  join_first,
-  join_second,
-  join_of_least,
-  pulled_order,
-  Grows,
-  push_order,
-  enter_order,
-  refine_order,
-  value_describe,
-}
+use Rattle.plai_depth_laws.proofs.States.{LeqCut-trans, LeqCut-antisym, LeqCut-refl, join_first, join_second, join_of_least, pulled_order, Grows, push_order}
+use Rattle.plai_depth_laws.proofs.States.{enter_order, refine_order, value_describe}
 
 -- at two lists of skeletons
 pub leq_of : {k n : ℕ} {ss ts : List Skeleton} → LeqCut k n ss ts → Leq k n (Terms ss) (Terms ts)

@@ -2,6 +2,7 @@ pub mod Equations
 pub mod Order
 pub mod Cuts
 pub mod Joins
+pub mod MeetLayers
 pub mod Meets
 pub mod Moves
 pub mod Closed

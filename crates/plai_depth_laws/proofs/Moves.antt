@@ -1,33 +1,6 @@
 -- What is pulled out of skeletons keeps the order, and a push gives the greatest skeletons under which the term lies below what is pushed.
-use Rattle.std.proofs.Common.{
-  ◌≡◌,
-  inl,
-  inr,
-  ℕ,
-  zero,
-  suc,
-  ◌<◌,
-  ℤ,
-  true,
-  false,
-  cond,
-  nat_lt,
-  List,
-  [],
-  ◌∷◌,
-  map,
-  length,
-  set,
-  Option,
-  Some,
-  None,
-  refl,
-  sym,
-  ap,
-  ◌∙◌,
-  subst,
-  rules,
-}
+use Rattle.std.proofs.Common.{◌≡◌, inl, inr, ℕ, zero, suc, ◌<◌, ℤ, true, false, cond, nat_lt, List, [], ◌∷◌, map, length, set, Option, Some, None, refl, sym}
+use Rattle.std.proofs.Common.{ap, ◌∙◌, subst, rules}
 use Rattle.std.specs.Option.{option_map, option_and_then}
 use Rattle.std.specs.List.{list_all, AllByRecursion}
 use Rattle.std.proofs.lemmas.List.{length-map, get_or-set_same}
@@ -44,7 +17,8 @@ use Rattle.plai_depth_laws.specs.Moves.{skeleton_at, pull, push_args, push_compo
 use Rattle.plai_depth_laws.specs.Order.{IsUnder, same, any, compound, AreUnder, none, more}
 use Rattle.plai_depth_laws.proofs.Equations.{functors_equal, functor_itself}
 use Rattle.plai_depth_laws.proofs.Order.{refl_all, length-AreUnder, IsUnder-trans, AreUnder-trans, under_number, under_atom, over_compound}
-use Rattle.plai_depth_laws.proofs.Meets.{AllAbove, meet_greatest, meet_below, meet_under}
+use Rattle.plai_depth_laws.proofs.Meets.{AllAbove, meet_greatest, meet_below}
+use Rattle.plai_depth_laws.proofs.MeetLayers.{meet_under}
 
 -- ---- equations
 

@@ -1,34 +1,6 @@
 -- Names, constants and integers as they stand in texts: which of them begin alike.
-use Rattle.std.proofs.Common.{
-  ◌≡◌,
-  ℕ,
-  ℤ,
-  pos,
-  negsuc,
-  suc,
-  ◌^◌,
-  ◌<◌,
-  Bool,
-  true,
-  false,
-  ◌&&◌,
-  ◌||◌,
-  not,
-  cond,
-  eqb,
-  ltb,
-  List,
-  [],
-  ◌∷◌,
-  ◌++◌,
-  refl,
-  sym,
-  ap,
-  ◌∙◌,
-  arith,
-  append_assoc,
-  codes,
-}
+use Rattle.std.proofs.Common.{◌≡◌, ℕ, ℤ, pos, negsuc, suc, ◌^◌, ◌<◌, Bool, true, false, ◌&&◌, ◌||◌, not, cond, eqb, ltb, List, [], ◌∷◌, ◌++◌, refl, sym, ap}
+use Rattle.std.proofs.Common.{◌∙◌, arith, append_assoc, codes}
 use Rattle.std.specs.Fmt.{decimal, signed_decimal}
 use Rattle.std.specs.List.{list_all, flat_map}
 use Rattle.std.specs.Char.{is_ascii_lowercase}

@@ -1,37 +1,6 @@
 -- What is described has the properties, what is entailed holds, and what is excluded doesn't.
-use Rattle.std.proofs.Common.{
-  ◌≡◌,
-  ◌⊎◌,
-  inl,
-  inr,
-  ℕ,
-  zero,
-  suc,
-  ◌-◌,
-  ◌≤◌,
-  ◌<◌,
-  ℤ,
-  Bool,
-  true,
-  false,
-  ◌||◌,
-  ◌&&◌,
-  not,
-  List,
-  [],
-  ◌∷◌,
-  length,
-  map,
-  get_or,
-  replicate,
-  refl,
-  sym,
-  ap,
-  ◌∙◌,
-  arith,
-  rules,
-  subst,
-}
+use Rattle.std.proofs.Common.{◌≡◌, ◌⊎◌, inl, inr, ℕ, zero, suc, ◌-◌, ◌≤◌, ◌<◌, ℤ, Bool, true, false, ◌||◌, ◌&&◌, not, List, [], ◌∷◌, length, map, get_or}
+use Rattle.std.proofs.Common.{replicate, refl, sym, ap, ◌∙◌, arith, rules, subst}
 use Rattle.std.specs.List.{list_all, list_any, All, AllByRecursion}
 use Rattle.std.proofs.lemmas.List.{get_or-map}
 use Rattle.std.proofs.lemmas.List.Elements.{recursion_from_All}
@@ -53,18 +22,8 @@ use Rattle.plai_terms.specs.declared.skeleton.Skeleton.TheVariants.{outs-Any, ou
 use Rattle.plai_domain.specs.Instances.{IsVar, IsInt, argument, has_property, has_properties, speaks_within}
 use Rattle.plai_depth_laws.specs.Moves.{skeleton_at}
 use Rattle.plai_depth_laws.specs.Order.{IsUnder, AreUnder}
-use Rattle.plai_depth_laws.specs.Operations.{
-  is_any_layer,
-  is_any,
-  is_integer_layer,
-  is_integer,
-  has_any_step,
-  has_any,
-  describe_of,
-  argument_of,
-  entails_of,
-  excludes_of,
-}
+use Rattle.plai_depth_laws.specs.Operations.{is_any_layer, is_any, is_integer_layer, is_integer, has_any_step, has_any, describe_of, argument_of, entails_of}
+use Rattle.plai_depth_laws.specs.Operations.{excludes_of}
 use Rattle.plai_depth_laws.specs.Described.{DescribedBy, any, integer, number, atom, compound, AllDescribedBy, none, more}
 use Rattle.plai_depth_laws.proofs.Moves.{under_set, pull-Int}
 use Rattle.plai_depth_laws.proofs.Described.{shape}

@@ -11,22 +11,8 @@ use Rattle.plai_terms.proofs.Skeletons.{arguments, induction}
 use Rattle.plai_terms.proofs.Same.{both}
 use Rattle.plai_terms.proofs.Reading.{first_of, integers_apart}
 use Rattle.plai_terms.proofs.AtomTexts.{atom_first, atoms_apart}
-use Rattle.plai_depth_laws.proofs.Names.{
-  ends,
-  ends_atom,
-  ends_number,
-  ends_bracket,
-  is_number,
-  atom_is,
-  constant_is,
-  integer_is,
-  short_integer,
-  integer_first,
-  constant_first,
-  constants_apart,
-  constant_atom,
-  constant_reserved,
-}
+use Rattle.plai_depth_laws.proofs.Names.{ends, ends_atom, ends_number, ends_bracket, is_number, atom_is, constant_is, integer_is, short_integer}
+use Rattle.plai_depth_laws.proofs.Names.{integer_first, constant_first, constants_apart, constant_atom, constant_reserved}
 
 -- ---- integers within 128 bits
 

@@ -11,7 +11,8 @@ use Rattle.plai_terms.specs.declared.skeleton.Skeleton.TheOpen.{Skeleton-F}
 use Rattle.plai_terms.proofs.Skeletons.{arguments, induction}
 use Rattle.plai_depth_laws.specs.Skeletons.{same_functor, consed, meet_args, meet_layer, meet_step, meet}
 use Rattle.plai_depth_laws.proofs.Equations.{is-Any, meet_at, functors_equal}
-use Rattle.plai_depth_laws.proofs.Meets.{meet-compound, meet-second_Any}
+use Rattle.plai_depth_laws.proofs.Meets.{meet-second_Any}
+use Rattle.plai_depth_laws.proofs.MeetLayers.{meet-compound}
 use Rattle.plai_depth_laws.proofs.Moves.{mapped_some, then_some}
 use Rattle.plai_depth_symbols.specs.Symbols.{Symbol, Functor}
 use Rattle.plai_depth_symbols.proofs.Symbols.{Over, AllOver, LayerOver, layer_over, over-Integer, over-Int, over-Atom, over-Compound}

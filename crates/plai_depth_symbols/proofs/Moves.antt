@@ -1,34 +1,6 @@
 -- Pulls, pushes and the operations of terms cut at a depth give only symbols of the skeletons and terms that they are given.
-use Rattle.std.proofs.Common.{
-  ◌≡◌,
-  ℕ,
-  zero,
-  suc,
-  ◌-◌,
-  ℤ,
-  Bool,
-  true,
-  false,
-  cond,
-  ◌&&◌,
-  List,
-  [],
-  ◌∷◌,
-  map,
-  length,
-  set,
-  slice_index_or,
-  replicate,
-  Some,
-  None,
-  refl,
-  sym,
-  ◌∙◌,
-  subst,
-  inl,
-  inr,
-  rules,
-}
+use Rattle.std.proofs.Common.{◌≡◌, ℕ, zero, suc, ◌-◌, ℤ, Bool, true, false, cond, ◌&&◌, List, [], ◌∷◌, map, length, set, slice_index_or, replicate, Some}
+use Rattle.std.proofs.Common.{None, refl, sym, ◌∙◌, subst, inl, inr, rules}
 use Rattle.std.specs.Option.{option_map}
 use Rattle.std.specs.List.{flat_map, AllByRecursion}
 use Rattle.std.proofs.lemmas.List.{length-map}
@@ -49,19 +21,8 @@ use Rattle.plai_depth_laws.proofs.Cuts.{cut_up}
 use Rattle.plai_depth_laws.proofs.Joins.{join_above}
 use Rattle.plai_depth_laws.proofs.Moves.{pull-Var, pull-Int, pull-Atom, pull-Compound, push-Var, push-Int, push-Atom, push-Compound, mapped_some, then_some}
 use Rattle.plai_depth_symbols.specs.Symbols.{Symbol, Number, Constant, Functor, term_symbols}
-use Rattle.plai_depth_symbols.proofs.Symbols.{
-  in_first,
-  in_second,
-  Over,
-  AllOver,
-  layer_over,
-  over-Any,
-  over-Integer,
-  over-Int,
-  over-Atom,
-  over-Compound,
-  over_above,
-}
+use Rattle.plai_depth_symbols.proofs.Symbols.{in_first, in_second, Over, AllOver, layer_over, over-Any, over-Integer, over-Int, over-Atom, over-Compound}
+use Rattle.plai_depth_symbols.proofs.Symbols.{over_above}
 use Rattle.plai_depth_symbols.proofs.Meets.{meet_over}
 
 -- ---- the symbols of terms

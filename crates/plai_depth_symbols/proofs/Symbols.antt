@@ -3,18 +3,8 @@ use Rattle.std.proofs.Common.{◌≡◌, ℕ, ℤ, List, [], ◌∷◌, ◌++◌
 use Rattle.std.specs.List.{flat_map, AllByRecursion}
 use Rattle.std.proofs.lemmas.List.{length-map}
 use Rattle.plai_theory.specs.Words.{IsIn}
-use Rattle.plai_terms.specs.declared.skeleton.Skeleton.{
-  Skeleton,
-  out-Skeleton,
-  fold-roll-Skeleton,
-  roll-out-Skeleton,
-  map-Skeleton,
-  Any,
-  Integer,
-  Int,
-  Atom,
-  Compound,
-}
+use Rattle.plai_terms.specs.declared.skeleton.Skeleton.{Skeleton, out-Skeleton, fold-roll-Skeleton, roll-out-Skeleton, map-Skeleton, Any, Integer, Int, Atom}
+use Rattle.plai_terms.specs.declared.skeleton.Skeleton.{Compound}
 use Rattle.plai_terms.specs.declared.skeleton.Skeleton.TheOpen.{Skeleton-F}
 use Rattle.plai_terms.specs.declared.skeleton.Skeleton.TheVariants.{outs-Any, outs-Integer, outs-Int, outs-Atom, outs-Compound}
 use Rattle.plai_depth_laws.specs.Order.{IsUnder, same, any, integer, compound, AreUnder, none, more}

@@ -4,7 +4,8 @@ use Rattle.std.proofs.lemmas.Bool.{or_cases, ne_eqb}
 use Rattle.plai_base.specs.Mask.{has_slot}
 use Rattle.plai_bdd.specs.Assignment.{Assignment, with_slot}
 use Rattle.plai_bdd.specs.Slots.{some_slot, quantified, DifferWithin, Somewhere}
-use Rattle.plai_bdd.proofs.Slots.{some_hold-Decides, put_back, or_right, same_truth}
+use Rattle.plai_bdd.proofs.Slots.{some_hold-Decides, or_right, same_truth}
+use Rattle.plai_bdd.proofs.Differing.{put_back}
 use Rattle.plai_bdd.proofs.Trees.{with_slot_same}
 
 same_or_not : (a b : ℕ) → (a ≡ b) ⊎ (a ≢ b)

@@ -6,8 +6,6 @@ mod cost;
 mod factor;
 mod factors;
 mod product;
-#[cfg(test)]
-mod tests;
 
 pub use factor::Factor;
 pub use factors::{share_all, with_function};

@@ -1,5 +1,7 @@
-//! Tests of factors and their relational product, in a crate of their own so that `plai_factors` is proved once.
+//! Tests of diagrams, factors and their relational product, in a crate of their own so that `plai_factors` is proved once.
 #![tactic(auto)]
 
+#[cfg(test)]
+mod diagrams;
 #[cfg(test)]
 mod shapes;

@@ -1,29 +1,6 @@
 -- Where a pair that was placed is closed, as it is told, and what it lowers.
-use Rattle.std.proofs.Common.{
-  ◌≡◌,
-  ℕ,
-  suc,
-  ◌<◌,
-  ◌≤◌,
-  Bool,
-  true,
-  false,
-  ◌&&◌,
-  ◌||◌,
-  nat_eq,
-  List,
-  [],
-  length,
-  Option,
-  Some,
-  None,
-  sym,
-  refl,
-  ap,
-  ◌∙◌,
-  subst,
-  arith,
-}
+use Rattle.std.proofs.Common.{◌≡◌, ℕ, suc, ◌<◌, ◌≤◌, Bool, true, false, ◌&&◌, ◌||◌, nat_eq, List, [], length, Option, Some, None, sym, refl, ap, ◌∙◌, subst}
+use Rattle.std.proofs.Common.{arith}
 use Rattle.plai_theory.specs.Domain.{Domain, Program, Name, IsLawful}
 use Rattle.plai_theory.specs.LegalWork.{IsLegalLog, no_work}
 use Rattle.plai_terms.specs.declared.abs.Abs.{Abs}

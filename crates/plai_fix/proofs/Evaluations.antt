@@ -1,39 +1,6 @@
 -- A dirty pair that is evaluated, as it is told.
-use Rattle.std.proofs.Common.{
-  ◌≡◌,
-  ℕ,
-  suc,
-  ◌+◌,
-  ◌-◌,
-  ◌≤◌,
-  Bool,
-  true,
-  false,
-  not,
-  ◌&&◌,
-  nat_eq,
-  eqb-true,
-  List,
-  [],
-  ◌∷◌,
-  ◌++◌,
-  map,
-  slice_get,
-  Option,
-  Some,
-  None,
-  IsSome,
-  length,
-  sym,
-  refl,
-  ap,
-  ◌∙◌,
-  subst,
-  inl,
-  inr,
-  zero,
-  arith,
-}
+use Rattle.std.proofs.Common.{◌≡◌, ℕ, suc, ◌+◌, ◌-◌, ◌≤◌, Bool, true, false, not, ◌&&◌, nat_eq, eqb-true, List, [], ◌∷◌, ◌++◌, map, slice_get, Option, Some}
+use Rattle.std.proofs.Common.{None, IsSome, length, sym, refl, ap, ◌∙◌, subst, inl, inr, zero, arith}
 use Rattle.std.proofs.lemmas.Bool.{eq-eqb}
 use Rattle.plai_theory.specs.Words.{IsIn, HasSome, given, item}
 use Rattle.plai_theory.specs.Domain.{Domain, Program, Name, IsLawful}

@@ -1,32 +1,6 @@
 -- A growth and a made row at a table and its arcs: what they keep before it, and what after.
-use Rattle.std.proofs.Common.{
-  ◌≡◌,
-  ◌↔◌,
-  ℕ,
-  suc,
-  Bool,
-  true,
-  false,
-  cond,
-  ◌||◌,
-  nat_eq,
-  eqb-true,
-  List,
-  [],
-  ◌∷◌,
-  ◌++◌,
-  map,
-  length,
-  Option,
-  Some,
-  None,
-  IsSome,
-  sym,
-  refl,
-  ap,
-  ◌∙◌,
-  subst,
-}
+use Rattle.std.proofs.Common.{◌≡◌, ◌↔◌, ℕ, suc, Bool, true, false, cond, ◌||◌, nat_eq, eqb-true, List, [], ◌∷◌, ◌++◌, map, length, Option, Some, None, IsSome}
+use Rattle.std.proofs.Common.{sym, refl, ap, ◌∙◌, subst}
 use Rattle.std.proofs.lemmas.Bool.{eq-eqb, eqb-false}
 use Rattle.plai_theory.specs.Words.{IsIn, given, item, HasSome}
 use Rattle.plai_theory.specs.Domain.{Domain, Program, IsLawful}
@@ -35,22 +9,8 @@ use Rattle.plai_theory.specs.LegalWork.{WorkRow, find, mentions, new_row, after_
 use Rattle.plai_theory.proofs.Options.{by_test}
 use Rattle.plai_fix.specs.WorkStates.{KeptRow, Keeping, IsNamed, KeepsRow, AtBoth, Keeps}
 use Rattle.plai_fix.specs.Changes.{Answers, Makes}
-use Rattle.plai_fix.proofs.Places.{
-  item_map,
-  both_push,
-  one_place,
-  mentions_in,
-  in_mentions,
-  own_map,
-  own_push,
-  push_at,
-  push_before,
-  push_cases,
-  none_at_end,
-  there,
-  have,
-  has_some,
-}
+use Rattle.plai_fix.proofs.Places.{item_map, both_push, one_place, mentions_in, in_mentions, own_map, own_push, push_at, push_before, push_cases, none_at_end}
+use Rattle.plai_fix.proofs.Places.{there, have, has_some}
 use Rattle.plai_fix.proofs.Steps.{row_at, some_not, same_test, or_right, or_false, or_cases, cond_true}
 
 module _ (d : Domain) (g : Program d) (laws : IsLawful d g) where

@@ -1,29 +1,6 @@
 -- Lists by place, as slices and as lists of the theory.
-use Rattle.std.proofs.Common.{
-  ◌≡◌,
-  ℕ,
-  zero,
-  suc,
-  ◌+◌,
-  ◌<◌,
-  Bool,
-  cond,
-  count_by,
-  List,
-  [],
-  ◌∷◌,
-  ◌++◌,
-  map,
-  length,
-  slice_get,
-  Some,
-  IsSome,
-  sym,
-  refl,
-  ap,
-  ◌∙◌,
-  arith,
-}
+use Rattle.std.proofs.Common.{◌≡◌, ℕ, zero, suc, ◌+◌, ◌<◌, Bool, cond, count_by, List, [], ◌∷◌, ◌++◌, map, length, slice_get, Some, IsSome, sym, refl, ap}
+use Rattle.std.proofs.Common.{◌∙◌, arith}
 use Rattle.std.proofs.lemmas.List.Sums.{sum_by-cons}
 use Rattle.plai_theory.specs.Words.{item}
 

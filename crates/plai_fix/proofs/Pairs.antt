@@ -1,51 +1,14 @@
 -- A pair that is evaluated and worked in, step by step.
-use Rattle.std.proofs.Common.{
-  ◌≡◌,
-  ◌≢◌,
-  ◌⊎◌,
-  ◌↔◌,
-  ℕ,
-  suc,
-  Bool,
-  true,
-  false,
-  nat_eq,
-  List,
-  [],
-  ◌∷◌,
-  ◌++◌,
-  Option,
-  Some,
-  None,
-  IsSome,
-  sym,
-  refl,
-  ap,
-  ◌∙◌,
-  subst,
-  inl,
-  inr,
-}
+use Rattle.std.proofs.Common.{◌≡◌, ◌≢◌, ◌⊎◌, ◌↔◌, ℕ, suc, Bool, true, false, nat_eq, List, [], ◌∷◌, ◌++◌, Option, Some, None, IsSome, sym, refl, ap, ◌∙◌}
+use Rattle.std.proofs.Common.{subst, inl, inr}
 use Rattle.std.proofs.lemmas.Bool.{eq-eqb}
 use Rattle.plai_theory.specs.Words.{IsIn, UpTo, given, item, HasSome}
 use Rattle.plai_theory.specs.Domain.{Domain, Program, IsLawful}
 use Rattle.plai_theory.specs.Evaluation.{NameOf, answer_of, calls_of, join_of}
-use Rattle.plai_theory.specs.LegalWork.{
-  WorkRow,
-  Work,
-  LogEntry,
-  Evaluated,
-  Grew,
-  present_source,
-  after_evaluating,
-  after_growing,
-  calls_now,
-  after,
-  no_work,
-  after_all,
-}
+use Rattle.plai_theory.specs.LegalWork.{WorkRow, Work, LogEntry, Evaluated, Grew, present_source, after_evaluating, after_growing, calls_now, after, no_work}
+use Rattle.plai_theory.specs.LegalWork.{after_all}
 use Rattle.plai_theory.specs.Limits.{Limits, IsOverAt}
-use Rattle.plai_theory.proofs.Logs.{Inv}
+use Rattle.plai_theory.proofs.Invariant.{Inv}
 use Rattle.plai_theory.proofs.Near.{answer_low}
 use Rattle.plai_theory.proofs.Rows.{present_map, item_in}
 use Rattle.plai_theory.proofs.Stages.{left_at}

@@ -1,32 +1,6 @@
 -- One step of legal work at a table and its arcs: what they keep before it, and what after.
-use Rattle.std.proofs.Common.{
-  ◌≡◌,
-  ◌↔◌,
-  ℕ,
-  zero,
-  suc,
-  Bool,
-  true,
-  false,
-  cond,
-  ◌&&◌,
-  ◌||◌,
-  nat_eq,
-  eqb-true,
-  List,
-  map,
-  Option,
-  Some,
-  None,
-  IsSome,
-  sym,
-  refl,
-  ap,
-  ap₂,
-  ◌∙◌,
-  subst,
-  arith,
-}
+use Rattle.std.proofs.Common.{◌≡◌, ◌↔◌, ℕ, zero, suc, Bool, true, false, cond, ◌&&◌, ◌||◌, nat_eq, eqb-true, List, map, Option, Some, None, IsSome, sym, refl}
+use Rattle.std.proofs.Common.{ap, ap₂, ◌∙◌, subst, arith}
 use Rattle.std.proofs.lemmas.Bool.{eq-eqb}
 use Rattle.plai_theory.specs.Words.{IsIn, given, item}
 use Rattle.plai_theory.specs.Domain.{Domain, Program, IsLawful}

@@ -8,7 +8,8 @@ use Rattle.plai_theory.specs.LegalWork.{WorkRow, LogEntry, present_source, no_wo
 use Rattle.plai_theory.specs.Limits.{Limits}
 use Rattle.plai_theory.proofs.Eval.{same_answer, same_called}
 use Rattle.plai_theory.proofs.Stages.{left_at}
-use Rattle.plai_theory.proofs.Logs.{Inv, log_keeps, empty}
+use Rattle.plai_theory.proofs.Logs.{log_keeps, empty}
+use Rattle.plai_theory.proofs.Invariant.{Inv}
 use Rattle.plai_fix.specs.WorkStates.{KeptRow, Keeping, IsNamed, KeepsRow, AtBoth, kept_source}
 use Rattle.plai_fix.specs.Logs.{IsLogged}
 use Rattle.plai_fix.proofs.Places.{found_at, one_place, same_source}

@@ -1,60 +1,11 @@
 -- Steps of legal work at a table and its arcs, each noted at the end of a log.
-use Rattle.std.proofs.Common.{
-  ◌≡◌,
-  ◌≢◌,
-  ℕ,
-  suc,
-  ◌+◌,
-  ◌<◌,
-  ◌≤◌,
-  Bool,
-  true,
-  false,
-  cond,
-  ◌↔◌,
-  nat_eq,
-  eqb-true,
-  List,
-  [],
-  ◌∷◌,
-  ◌++◌,
-  map,
-  Option,
-  Some,
-  None,
-  IsSome,
-  sym,
-  refl,
-  ap,
-  ap₂,
-  ◌∙◌,
-  subst,
-  arith,
-}
+use Rattle.std.proofs.Common.{◌≡◌, ◌≢◌, ℕ, suc, ◌+◌, ◌<◌, ◌≤◌, Bool, true, false, cond, ◌↔◌, nat_eq, eqb-true, List, [], ◌∷◌, ◌++◌, map, Option, Some, None}
+use Rattle.std.proofs.Common.{IsSome, sym, refl, ap, ap₂, ◌∙◌, subst, arith}
 use Rattle.plai_theory.specs.Words.{IsIn, given, item}
 use Rattle.plai_theory.specs.Domain.{Domain, Program, IsLawful}
 use Rattle.plai_theory.specs.Evaluation.{NameOf}
-use Rattle.plai_theory.specs.LegalWork.{
-  WorkRow,
-  Work,
-  LogEntry,
-  Made,
-  Evaluated,
-  Grew,
-  find,
-  present_source,
-  mentions,
-  new_row,
-  after_evaluating,
-  after_growing,
-  calls_now,
-  next_answer,
-  after,
-  IsDemanded,
-  live_count,
-  IsLegal,
-  after_all,
-}
+use Rattle.plai_theory.specs.LegalWork.{WorkRow, Work, LogEntry, Made, Evaluated, Grew, find, present_source, mentions, new_row, after_evaluating}
+use Rattle.plai_theory.specs.LegalWork.{after_growing, calls_now, next_answer, after, IsDemanded, live_count, IsLegal, after_all}
 use Rattle.plai_theory.specs.Limits.{Limits, IsOverAt, Fits, AllFit}
 use Rattle.plai_theory.proofs.Options.{by_test}
 use Rattle.plai_theory.proofs.Rows.{find_map, find_push}

@@ -1,11 +1,11 @@
-//! Tests of what several crates do together: clauses evaluated under groundness.
+//! Tests of `Ground`: beside a second program over lists of models, and of clauses that are evaluated under it.
 #![tactic(auto)]
 
 #[cfg(test)]
-mod generated;
+mod beside;
 #[cfg(test)]
 mod models;
 #[cfg(test)]
-mod models_tests;
+mod second;
 #[cfg(test)]
 mod tests;

@@ -218,26 +218,19 @@ pub fn join(alloc: Global, a: &[u64], b: &[u64]) -> Result<Vec<u64>, AllocError>
     Ok(ascending(both))
 }
 
-/// Whether each model of the first is one of the second.
-pub fn leq(a: &[u64], b: &[u64]) -> bool {
-    a.iter().all(|x| b.contains(x))
-}
-
-/// Whether each tuple that is described has the property.
-pub fn entails(models: &[u64], property: &Prop) -> bool {
+/// Whether each tuple that the model describes has the property. None has the others at each model.
+pub fn entails(model: u64, property: &Prop) -> bool {
     match property {
-        Prop::Ground(i) | Prop::Nonvar(i) => models.iter().all(|x| has_argument(*x, *i)),
-        Prop::Indep(i, j) => models
-            .iter()
-            .all(|x| has_argument(*x, *i) || has_argument(*x, *j)),
+        Prop::Ground(i) | Prop::Nonvar(i) => has_argument(model, *i),
+        Prop::Indep(i, j) => has_argument(model, *i) || has_argument(model, *j),
         Prop::Var(_) | Prop::Int(_) => false,
     }
 }
 
-/// Whether no tuple that is described has the property.
-pub fn excludes(models: &[u64], property: &Prop) -> bool {
+/// Whether no tuple that the model describes has the property.
+pub fn excludes(model: u64, property: &Prop) -> bool {
     match property {
-        Prop::Var(i) => models.iter().all(|x| has_argument(*x, *i)),
+        Prop::Var(i) => has_argument(model, *i),
         Prop::Ground(_) | Prop::Nonvar(_) | Prop::Int(_) | Prop::Indep(_, _) => false,
     }
 }

@@ -1,29 +1,6 @@
 -- Looking for the end of a comment.
-use Rattle.std.proofs.Common.{
-  ◌≡◌,
-  ℕ,
-  suc,
-  ◌+◌,
-  ◌<◌,
-  true,
-  false,
-  nat_eq,
-  codes,
-  Option,
-  None,
-  Some,
-  option_map,
-  List,
-  length,
-  drop,
-  refl,
-  ap,
-  sym,
-  ◌∙◌,
-  arith,
-  drop-cons,
-  add-one,
-}
+use Rattle.std.proofs.Common.{◌≡◌, ℕ, suc, ◌+◌, ◌<◌, true, false, nat_eq, codes, Option, None, Some, option_map, List, length, drop, refl, ap, sym, ◌∙◌}
+use Rattle.std.proofs.Common.{arith, drop-cons, add-one}
 use Rattle.std.specs.List.{starts_with}
 use Rattle.plai_lex.specs.Pieces.{close_len}
 

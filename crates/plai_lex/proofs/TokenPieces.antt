@@ -1,40 +1,6 @@
 -- Tokens piece by piece.
-use Rattle.std.proofs.Common.{
-  ◌≡◌,
-  ℕ,
-  zero,
-  suc,
-  ◌+◌,
-  ◌≤◌,
-  ◌^◌,
-  Bool,
-  true,
-  false,
-  cond,
-  not,
-  ◌&&◌,
-  ◌||◌,
-  nat_eq,
-  nat_lt,
-  codes,
-  pos,
-  Option,
-  None,
-  Some,
-  List,
-  [],
-  ◌∷◌,
-  length,
-  drop,
-  refl,
-  ap,
-  arith,
-  length-drop,
-  ◌∙◌,
-  sym,
-  subst,
-  take_while,
-}
+use Rattle.std.proofs.Common.{◌≡◌, ℕ, zero, suc, ◌+◌, ◌≤◌, ◌^◌, Bool, true, false, cond, not, ◌&&◌, ◌||◌, nat_eq, nat_lt, codes, pos, Option, None, Some}
+use Rattle.std.proofs.Common.{List, [], ◌∷◌, length, drop, refl, ap, arith, length-drop, ◌∙◌, sym, subst, take_while}
 use Rattle.std.specs.List.{starts_with, prefix_len}
 use Rattle.std.proofs.lemmas.List.{drop-drop}
 use Rattle.plai_lex.specs.declared.token.TokenKind.{TokenKind}

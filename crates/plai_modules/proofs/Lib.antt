@@ -3,6 +3,7 @@ pub mod Passes
 pub mod Formed
 pub mod Targets
 pub mod Imported
+pub mod OnlyImports
 pub mod Counted
 pub mod There
 pub mod KeySets

@@ -9,24 +9,8 @@ use Rattle.plai_clauses.specs.declared.clause.Literal.{Literal}
 use Rattle.plai_clauses.specs.declared.cause.ClauseCause.{ClauseCause}
 use Rattle.plai_clauses.specs.declared.cause.ClauseCause.TheVariants.{TooManySlots}
 use Rattle.plai_clauses.specs.Builtins.{is_refused_key}
-use Rattle.plai_clauses.specs.ClauseOf.{
-  unless,
-  cause_of_key,
-  target_of,
-  head_of,
-  literal_in,
-  literal_of,
-  in_front,
-  body_of,
-  goals_of,
-  widest,
-  within_slots,
-  clause_with,
-  clause_from,
-  clause_in,
-  clause_of,
-  two_arguments,
-}
+use Rattle.plai_clauses.specs.ClauseOf.{unless, cause_of_key, target_of, head_of, literal_in, literal_of, in_front, body_of, goals_of, widest, within_slots}
+use Rattle.plai_clauses.specs.ClauseOf.{clause_with, clause_from, clause_in, clause_of, two_arguments}
 
 -- literals with as many arguments each, or the same cause
 SameWidth : Result Literal ClauseCause → Result Literal ClauseCause → Type 0

@@ -1,50 +1,13 @@
 -- Arguments that a clause's variables determine, through each operation on sets of assignments.
-use Rattle.std.proofs.Common.{
-  ◌≡◌,
-  ℕ,
-  ◌+◌,
-  ◌*◌,
-  ◌/◌,
-  ◌%◌,
-  ◌^◌,
-  ◌<◌,
-  Bool,
-  true,
-  false,
-  nat_eq,
-  ◌&&◌,
-  List,
-  filter,
-  length,
-  map,
-  get_or,
-  refl,
-  sym,
-  ap,
-  subst,
-  ◌∙◌,
-  arith,
-}
+use Rattle.std.proofs.Common.{◌≡◌, ℕ, ◌+◌, ◌*◌, ◌/◌, ◌%◌, ◌^◌, ◌<◌, Bool, true, false, nat_eq, ◌&&◌, List, filter, length, map, get_or, refl, sym, ap, subst}
+use Rattle.std.proofs.Common.{◌∙◌, arith}
 use Rattle.std.proofs.lemmas.Bool.{eq-eqb, eqb-true, and_parts, and_from}
 use Rattle.std.proofs.lemmas.List.{get_or-map, length-map}
 use Rattle.std.proofs.lemmas.Nat.{pow-add, mod_low, shr_high, shr_below}
 use Rattle.plai_base.specs.Mask.{has_slot, all_true}
 use Rattle.plai_base.specs.Sets.{has, has_some, has_all, kept, IsSet}
-use Rattle.plai_base.proofs.Sets.{
-  same_tests,
-  has_kept,
-  kept_has,
-  kept_same,
-  has-kept,
-  has-filter,
-  filter-kept,
-  some_from,
-  some_of,
-  IsSet_below,
-  IsSet-kept,
-  IsSet-filter,
-  same_set,
-}
+use Rattle.plai_base.proofs.Sets.{same_tests, has_kept, kept_has, kept_same, has-kept, has-filter, filter-kept, some_from, some_of, IsSet_below, IsSet-kept}
+use Rattle.plai_base.proofs.Sets.{IsSet-filter, same_set}
 use Rattle.plai_base.proofs.Bits.{pattern_slot, pattern_lt, top_lt, top_slot}
 use Rattle.plai_terms.specs.declared.term.Term.{Term, Var}
 use Rattle.plai_domain.specs.Instances.{all_below}

@@ -4,6 +4,7 @@ pub mod Determined
 pub mod Equal
 pub mod Factors
 pub mod Literals
+pub mod Preimages
 pub mod Masks
 pub mod Printed
 pub mod Refined

@@ -1,32 +1,6 @@
 -- What an action leaves describes each instance after a substitution that it allows.
-use Rattle.std.proofs.Common.{
-  ◌≡◌,
-  ℕ,
-  zero,
-  suc,
-  ◌-◌,
-  ◌<◌,
-  true,
-  false,
-  cond,
-  List,
-  [],
-  ◌∷◌,
-  ◌++◌,
-  length,
-  map,
-  get_or,
-  Option,
-  Some,
-  None,
-  refl,
-  sym,
-  ap,
-  ◌∙◌,
-  arith,
-  rules,
-  subst,
-}
+use Rattle.std.proofs.Common.{◌≡◌, ℕ, zero, suc, ◌-◌, ◌<◌, true, false, cond, List, [], ◌∷◌, ◌++◌, length, map, get_or, Option, Some, None, refl, sym, ap}
+use Rattle.std.proofs.Common.{◌∙◌, arith, rules, subst}
 use Rattle.std.proofs.lemmas.Bool.{and_parts, false≢true, false_from_ne_true}
 use Rattle.std.proofs.lemmas.List.{get_or-map}
 use Rattle.plai_base.specs.Sets.{has_all}

@@ -1,32 +1,6 @@
 -- The operations of groundness describe the instances that functions from variables to terms make.
-use Rattle.std.proofs.Common.{
-  ◌≡◌,
-  inl,
-  inr,
-  ℕ,
-  zero,
-  suc,
-  ◌+◌,
-  ◌-◌,
-  ◌<◌,
-  ◌≤◌,
-  true,
-  false,
-  List,
-  [],
-  ◌∷◌,
-  length,
-  map,
-  get_or,
-  Some,
-  refl,
-  sym,
-  ap,
-  ◌∙◌,
-  arith,
-  rules,
-  subst,
-}
+use Rattle.std.proofs.Common.{◌≡◌, inl, inr, ℕ, zero, suc, ◌+◌, ◌-◌, ◌<◌, ◌≤◌, true, false, List, [], ◌∷◌, length, map, get_or, Some, refl, sym, ap, ◌∙◌}
+use Rattle.std.proofs.Common.{arith, rules, subst}
 use Rattle.std.specs.List.{list_all, AllByRecursion}
 use Rattle.std.proofs.lemmas.Bool.{ltb-true, and_parts}
 use Rattle.std.proofs.lemmas.List.{length-map}
@@ -50,17 +24,8 @@ use Rattle.plai_domain.specs.Soundness.{numbers, Speaks, IsFrom, TellsTruly, Act
 use Rattle.plai_pos_laws.specs.Groundness.{Describes, DescribesInstance, groundness}
 use Rattle.plai_pos_laws.proofs.Holds.{below-Var, below-Compound}
 use Rattle.plai_pos_laws.proofs.Sound.{bound_numbered}
-use Rattle.plai_pos_laws.proofs.Soundness.{
-  larger_describes,
-  describe_describes,
-  entailed_holds,
-  excluded_fails,
-  enter_describes,
-  call_describes,
-  back_describes,
-  refine_describes,
-  exit_describes,
-}
+use Rattle.plai_pos_laws.proofs.Soundness.{larger_describes, describe_describes, entailed_holds, excluded_fails, enter_describes, call_describes}
+use Rattle.plai_pos_laws.proofs.Soundness.{back_describes, refine_describes, exit_describes}
 
 -- ---- variables below a number
 

@@ -5,19 +5,8 @@ use Rattle.std.proofs.lemmas.List.{get_or-map}
 use Rattle.std.proofs.lemmas.Nat.{shr_high}
 use Rattle.plai_base.specs.Mask.{has_slot, pattern}
 use Rattle.plai_base.specs.Sets.{has, has_some, kept, IsSet}
-use Rattle.plai_base.proofs.Sets.{
-  same_tests,
-  same_set,
-  is_kept,
-  IsSet-kept,
-  IsSet-filter,
-  IsSet_below,
-  filter_within,
-  filter_passes,
-  has_filter,
-  some_from,
-  some_of,
-}
+use Rattle.plai_base.proofs.Sets.{same_tests, same_set, is_kept, IsSet-kept, IsSet-filter, IsSet_below, filter_within, filter_passes, has_filter, some_from}
+use Rattle.plai_base.proofs.Sets.{some_of}
 use Rattle.plai_base.proofs.Bits.{slot_high, pattern_slot}
 use Rattle.plai_terms.specs.declared.term.Term.{Term, Var}
 use Rattle.plai_domain.specs.Instances.{all_below}

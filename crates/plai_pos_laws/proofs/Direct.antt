@@ -1,33 +1,6 @@
 -- The members of what each operation gives, without the slots of a literal.
-use Rattle.std.proofs.Common.{
-  ◌≡◌,
-  ℕ,
-  zero,
-  suc,
-  ◌+◌,
-  ◌*◌,
-  ◌/◌,
-  ◌%◌,
-  ◌^◌,
-  ◌≤◌,
-  ◌<◌,
-  Bool,
-  true,
-  false,
-  nat_eq,
-  List,
-  [],
-  ◌∷◌,
-  filter,
-  length,
-  get_or,
-  refl,
-  sym,
-  ap,
-  ◌∙◌,
-  arith,
-  subst,
-}
+use Rattle.std.proofs.Common.{◌≡◌, ℕ, zero, suc, ◌+◌, ◌*◌, ◌/◌, ◌%◌, ◌^◌, ◌≤◌, ◌<◌, Bool, true, false, nat_eq, List, [], ◌∷◌, filter, length, get_or, refl}
+use Rattle.std.proofs.Common.{sym, ap, ◌∙◌, arith, subst}
 use Rattle.std.proofs.lemmas.List.{length-map}
 use Rattle.std.proofs.Math.Nat.{mul-le-mul_right}
 use Rattle.std.specs.Int.{bit_at}
@@ -42,21 +15,8 @@ use Rattle.plai_base.proofs.Bits.{slot_low, slot_high, pattern_lt, pattern_slot}
 use Rattle.plai_terms.specs.declared.term.Term.{Term}
 use Rattle.plai_terms.specs.Term.{has_variables_below}
 use Rattle.plai_domain.specs.Instances.{all_below}
-use Rattle.plai_pos_laws.specs.Assignments.{
-  agree,
-  holds,
-  variable_in,
-  unify,
-  unify_all,
-  widened,
-  first_slots,
-  later_slots,
-  with_literal,
-  enter_of,
-  call_of,
-  back_of,
-  acted,
-}
+use Rattle.plai_pos_laws.specs.Assignments.{agree, holds, variable_in, unify, unify_all, widened, first_slots, later_slots, with_literal, enter_of, call_of}
+use Rattle.plai_pos_laws.specs.Assignments.{back_of, acted}
 use Rattle.plai_pos_laws.specs.Truths.{truths, agrees}
 use Rattle.plai_pos_laws.proofs.Holds.{holds_same}
 

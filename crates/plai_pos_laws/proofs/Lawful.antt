@@ -3,22 +3,8 @@ use Rattle.std.proofs.Common.{[]}
 use Rattle.plai_domain.specs.Outcomes.{SomeTooLarge}
 use Rattle.plai_domain.specs.Laws.{IsLawful}
 use Rattle.plai_pos_laws.specs.Groundness.{groundness}
-use Rattle.plai_pos_laws.proofs.Laws.{
-  trans,
-  antisym,
-  left,
-  right,
-  above_first,
-  above_second,
-  least,
-  falls,
-  describe_value,
-  enter_monotone,
-  call_monotone,
-  back_monotone,
-  refine_monotone,
-  exit_monotone,
-}
+use Rattle.plai_pos_laws.proofs.Laws.{trans, antisym, left, right, above_first, above_second, least, falls, describe_value, enter_monotone, call_monotone}
+use Rattle.plai_pos_laws.proofs.Laws.{back_monotone, refine_monotone, exit_monotone}
 
 -- no set is too large where none is formed
 nothing_over : SomeTooLarge [] → ⊥

@@ -10,18 +10,8 @@ use Rattle.plai_domain.specs.Plain.{StateView, UpTo}
 use Rattle.plai_domain.specs.Instances.{all_below, speaks_within, acts_within}
 use Rattle.plai_pos_laws.specs.Assignments.{IsPositive, LeqModels, refine_of, join_of, rank_of}
 use Rattle.plai_pos_laws.specs.Groundness.{masks_of, arity_of, Leq, Below, state_with, state_from, groundness}
-use Rattle.plai_pos_laws.proofs.Order.{
-  LeqModels-trans,
-  LeqModels-antisym,
-  LeqModels-refl,
-  join_first,
-  join_second,
-  join_least,
-  enter_order,
-  call_order,
-  back_order,
-  exit_order,
-}
+use Rattle.plai_pos_laws.proofs.Order.{LeqModels-trans, LeqModels-antisym, LeqModels-refl, join_first, join_second, join_least, enter_order, call_order}
+use Rattle.plai_pos_laws.proofs.Order.{back_order, exit_order}
 use Rattle.plai_pos_laws.proofs.Properties.{value_describe}
 use Rattle.plai_pos_laws.proofs.Refine.{refine_order}
 use Rattle.plai_pos_laws.proofs.Rank.{rank_falls}

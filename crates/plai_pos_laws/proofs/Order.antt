@@ -8,22 +8,9 @@ use Rattle.plai_base.proofs.Bits.{top_div}
 use Rattle.plai_terms.specs.declared.term.Term.{Term}
 use Rattle.plai_domain.specs.Instances.{all_below}
 use Rattle.plai_pos_laws.specs.Assignments.{IsPositive, LeqModels, widened, with_literal, enter_of, call_of, back_of, exit_of, join_of, acted}
-use Rattle.plai_pos_laws.proofs.Parts.{
-  IsWithin-refl,
-  IsWithin-filter,
-  IsWithin-widened,
-  IsWithin-first_slots,
-  IsWithin-later_slots,
-  IsWithin-unify_all,
-  IsWithin-with_literal,
-  value_kept,
-  value_filter,
-  value_widened,
-  value_first_slots,
-  value_later_slots,
-  value_unify_all,
-  value_with_literal,
-}
+use Rattle.plai_pos_laws.proofs.Parts.{IsWithin-refl, IsWithin-filter, IsWithin-widened, IsWithin-first_slots, IsWithin-later_slots, IsWithin-unify_all}
+use Rattle.plai_pos_laws.proofs.Parts.{IsWithin-with_literal, value_kept, value_filter, value_widened, value_first_slots, value_later_slots, value_unify_all}
+use Rattle.plai_pos_laws.proofs.Parts.{value_with_literal}
 
 -- ---- the order
 

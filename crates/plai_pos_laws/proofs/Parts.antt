@@ -1,30 +1,6 @@
 -- Each part of an operation is monotone, and gives sets that have the all-true assignment.
-use Rattle.std.proofs.Common.{
-  ◌≡◌,
-  ℕ,
-  suc,
-  ◌+◌,
-  ◌/◌,
-  ◌%◌,
-  ◌^◌,
-  ◌≤◌,
-  ◌<◌,
-  Bool,
-  true,
-  nat_eq,
-  List,
-  [],
-  ◌∷◌,
-  filter,
-  length,
-  inl,
-  inr,
-  refl,
-  ap,
-  ◌∙◌,
-  arith,
-  subst,
-}
+use Rattle.std.proofs.Common.{◌≡◌, ℕ, suc, ◌+◌, ◌/◌, ◌%◌, ◌^◌, ◌≤◌, ◌<◌, Bool, true, nat_eq, List, [], ◌∷◌, filter, length, inl, inr, refl, ap, ◌∙◌, arith}
+use Rattle.std.proofs.Common.{subst}
 use Rattle.std.proofs.lemmas.Bool.{eq-eqb, eqb-true, and_parts, and_from, or_cases, or_left, or_right, false≢true}
 use Rattle.plai_base.specs.Mask.{has_slot, all_true}
 use Rattle.plai_base.specs.Sets.{has, has_some, has_all, kept, IsWithin}

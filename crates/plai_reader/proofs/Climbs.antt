@@ -7,23 +7,8 @@ use Rattle.plai_reader.specs.Level.{Builder, Link, applied}
 use Rattle.plai_reader.specs.declared.level.Frame.{Frame}
 use Rattle.plai_reader.specs.Kinds.{leans_right}
 use Rattle.plai_reader.specs.Climb.{holds, finished, popped, climbed}
-use Rattle.plai_reader.proofs.Spine.{
-  Place,
-  Spine,
-  leaf,
-  node,
-  joined,
-  value,
-  enter,
-  enter_all,
-  Dead,
-  Dead-enter_all,
-  fresh,
-  same-above,
-  Dead-above,
-  enter-held,
-  enter-free,
-}
+use Rattle.plai_reader.proofs.Spine.{Place, Spine, leaf, node, joined, value, enter, enter_all, Dead, Dead-enter_all, fresh, same-above, Dead-above}
+use Rattle.plai_reader.proofs.Spine.{enter-held, enter-free}
 
 module _ {T : Type 0} (build : Builder T) where
   -- the frames above a spine

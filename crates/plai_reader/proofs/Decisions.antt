@@ -16,27 +16,8 @@ use Rattle.plai_reader.specs.declared.state.Leaf.TheVariants as leaf
 use Rattle.plai_reader.specs.declared.state.Action.{Action}
 use Rattle.plai_reader.specs.declared.state.Action.TheVariants as action
 use Rattle.plai_reader.specs.Operators.{Table, look_up}
-use Rattle.plai_reader.specs.Roles.{
-  is_open,
-  is_close_list,
-  is_edge,
-  next_is,
-  tight_next,
-  is_infix_or_postfix,
-  starts_next,
-  is_minus,
-  operator,
-  named,
-  at_nil,
-  where_wanted,
-  operating,
-  at_comma,
-  at_bar,
-  at_close,
-  at_close_list,
-  where_operating,
-  decided,
-}
+use Rattle.plai_reader.specs.Roles.{is_open, is_close_list, is_edge, next_is, tight_next, is_infix_or_postfix, starts_next, is_minus, operator, named, at_nil}
+use Rattle.plai_reader.specs.Roles.{where_wanted, operating, at_comma, at_bar, at_close, at_close_list, where_operating, decided}
 use Rattle.plai_reader.proofs.Numbers.{IsBelow}
 
 abbrev pub LeafBelow : ℕ → Leaf → Type 0

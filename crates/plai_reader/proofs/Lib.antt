@@ -1,8 +1,10 @@
 pub mod Spine
 pub mod Climbs
+pub mod Leftmost
 pub mod Weakest
 pub mod Trees
 pub mod Runs
+pub mod DeadLevels
 pub mod Readings
 pub mod Keeping
 pub mod Numbers

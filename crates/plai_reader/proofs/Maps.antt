@@ -22,29 +22,8 @@ use Rattle.plai_reader.specs.Operators.{Table}
 use Rattle.plai_reader.specs.declared.variables.Variables.{Variables}
 use Rattle.plai_reader.specs.Variables.{no_variables, number_at, after_token, after_tokens}
 use Rattle.plai_reader.specs.Roles.{nil, is_end, decided}
-use Rattle.plai_reader.specs.Reading.{
-  Layer,
-  State,
-  within,
-  limit_of,
-  list_of,
-  leaf_tree,
-  closed,
-  put,
-  back,
-  pushed,
-  begun,
-  fresh,
-  item,
-  performed,
-  noted,
-  behind,
-  ended,
-  last,
-  run,
-  start,
-  read_of,
-}
+use Rattle.plai_reader.specs.Reading.{Layer, State, within, limit_of, list_of, leaf_tree, closed, put, back, pushed, begun, fresh, item, performed, noted}
+use Rattle.plai_reader.specs.Reading.{behind, ended, last, run, start, read_of}
 use Rattle.plai_reader.proofs.Spine.{Place}
 use Rattle.plai_reader.proofs.Numbers.{IsNumbering, no_variables-IsNumbering, after_token-IsNumbering, after_tokens-grows, number_at-below}
 use Rattle.plai_reader.proofs.Decisions.{LeafBelow, ActionBelow, MaybeBelow, decided-below}

@@ -1,32 +1,7 @@
 -- The tree by the weakest operator is the value of the spine.
-use Rattle.std.proofs.Common.{
-  ◌≡◌,
-  ℕ,
-  zero,
-  suc,
-  ◌+◌,
-  ◌<◌,
-  ◌≤◌,
-  Bool,
-  true,
-  false,
-  cond,
-  ◌⊎◌,
-  inl,
-  inr,
-  List,
-  [],
-  ◌∷◌,
-  ◌++◌,
-  length,
-  refl,
-  ap,
-  sym,
-  ◌∙◌,
-  subst,
-  arith,
-}
-use Rattle.std.specs.Prelude.{Option, Some, None, option_and_then, ◌&&◌, nat_eq, nat_lt}
+use Rattle.std.proofs.Common.{◌≡◌, ℕ, zero, suc, ◌+◌, ◌<◌, ◌≤◌, Bool, true, false, cond, ◌⊎◌, inl, inr, List, [], ◌∷◌, ◌++◌, length, refl, ap, sym, ◌∙◌}
+use Rattle.std.proofs.Common.{subst, arith}
+use Rattle.std.specs.Prelude.{Option, Some, None, option_and_then, nat_eq, nat_lt}
 use Rattle.std.proofs.lemmas.Bool.Decides.{nat_tests}
 use Rattle.plai_reader.specs.declared.operator.OpKind.{OpKind}
 use Rattle.plai_reader.specs.declared.operator.OpKind.TheVariants.{Xfx, Xfy, Yfx, Fx, Fy, Xf, Yf}
@@ -36,122 +11,11 @@ use Rattle.plai_reader.specs.declared.operator.Side.TheVariants.{Below}
 use Rattle.plai_reader.specs.Kinds.{left_of, right_of, leans_right}
 use Rattle.plai_reader.specs.Level.{Builder, Link, taken, greatest, Cut, later, leftmost, or_else, rightmost, weakest, tree_within}
 use Rattle.plai_reader.specs.Climb.{holds}
-use Rattle.plai_reader.proofs.Spine.{Place, Spine, leaf, node, joined, value, enter, enter_all, fresh, enter-held, enter-free}
+use Rattle.plai_reader.proofs.Spine.{Place, Spine, leaf, node, joined, value, enter, enter_all, fresh, enter-free}
+use Rattle.plai_reader.proofs.Leftmost.{AllBelow, AllBelow-greatest, test_free, holds-equal, Held-below, RootBelow, enter-below, RootBelow-enter, parts, here}
+use Rattle.plai_reader.proofs.Leftmost.{cut-here, LeftClaim, eq_true, eq_false, left-is}
 
 module _ {T : Type 0} (build : Builder T) where
-  -- every link is below the priority
-  abbrev pub AllBelow : ℕ → List (Link T) → Type 0
-  AllBelow g [] = Unit {0}
-  AllBelow g (l ∷ ls) = (l.operator.priority < g) × AllBelow g ls
-
-  AllBelow-greatest : (g : ℕ) (ls : List (Link T)) → AllBelow g ls → 0 < g → greatest ls < g
-  AllBelow-greatest g [] h p = p
-  AllBelow-greatest g (l ∷ ls) h p =
-      let q = AllBelow-greatest g ls h.1 p in
-      let r : l.operator.priority < g = h.0 in
-      omega arith
-
-  -- every link is held by the operator
-  abbrev pub Held : Operator → List (Link T) → Type 0
-  Held w [] = Unit {0}
-  Held w (l ∷ ls) = (holds w l.operator ≡ true) × Held w ls
-
-  test_below : (a b : ℕ) (s : Bool) → b < a → cond (nat_lt b a) true (nat_eq b a && s) ≡ true
-  test_below a b true p = grind (arith, nat_tests)
-  test_below a b false p = grind (arith, nat_tests)
-
-  test_up_to : (a b : ℕ) → b ≤ a → cond (nat_lt b a) true (nat_eq b a && true) ≡ true
-  test_up_to a b p = grind (arith, nat_tests)
-
-  test_above : (a b : ℕ) (s : Bool) → a < b → cond (nat_lt b a) true (nat_eq b a && s) ≡ false
-  test_above a b true p = grind (arith, nat_tests)
-  test_above a b false p = grind (arith, nat_tests)
-
-  test_equal : (a b : ℕ) → a ≡ b → cond (nat_lt b a) true (nat_eq b a && false) ≡ false
-  test_equal a b p = grind (arith, nat_tests)
-
-  test_free : (a b : ℕ) (s : Bool) → cond (nat_lt b a) true (nat_eq b a && s) ≡ false → a ≤ b
-  test_free a b true p = grind (arith, nat_tests)
-  test_free a b false p = grind (arith, nat_tests)
-
-  holds-right : (w n : Operator) → leans_right w.kind ≡ true → n.priority ≤ w.priority → holds w n ≡ true
-  holds-right w n e p = ap (λ s. cond (nat_lt n.priority w.priority) true (nat_eq n.priority w.priority && s)) e ∙ test_up_to w.priority n.priority p
-
-  holds-equal : (w n : Operator) → leans_right w.kind ≡ false → w.priority ≡ n.priority → holds w n ≡ false
-  holds-equal w n e p = ap (λ s. cond (nat_lt n.priority w.priority) true (nat_eq n.priority w.priority && s)) e ∙ test_equal w.priority n.priority p
-
-  Held-right : (w : Operator) (ls : List (Link T)) → leans_right w.kind ≡ true → greatest ls ≤ w.priority → Held w ls
-  Held-right w [] e p = tt
-  Held-right w (l ∷ ls) e p = (holds-right w l.operator e (omega arith), Held-right w ls e (omega arith))
-
-  Held-below : (w : Operator) (ls : List (Link T)) → AllBelow w.priority ls → Held w ls
-  Held-below w [] h = tt
-  Held-below w (l ∷ ls) h = (test_below w.priority l.operator.priority (leans_right w.kind) h.0, Held-below w ls h.1)
-
-  enter_all-held : (v : Option (Place T)) (w : Operator) (s : Spine T) (ls : List (Link T)) → Held w ls
-      → enter_all build (node v w s) ls ≡ node v w (enter_all build s ls)
-  enter_all-held v w s [] h = refl
-  enter_all-held v w s (l ∷ ls) h = ap (λ t. enter_all build t ls) (enter-held build l v w s h.0) ∙ enter_all-held v w (enter build l s) ls h.1
-
-  -- the root is below the priority
-  abbrev pub RootBelow : ℕ → Spine T → Type 0
-  RootBelow g (leaf p) = Unit {0}
-  RootBelow g (node v o r) = o.priority < g
-
-  enter-below : (g : ℕ) (n : Link T) (s : Spine T) → RootBelow g s → g ≤ n.operator.priority → enter build n s ≡ fresh build (value build s) n
-  enter-below g n (leaf p) h e = refl
-  enter-below g n (node v o r) h e =
-      enter-free build n v o r (test_above o.priority n.operator.priority (leans_right o.kind) (omega arith))
-
-  RootBelow-enter : (g : ℕ) (n : Link T) (s : Spine T) → RootBelow g s → n.operator.priority < g → RootBelow g (enter build n s)
-  RootBelow-enter g n (leaf p) h e = e
-  RootBelow-enter g n (node v o r) h e =
-      elim (holds o n.operator) as (λ b. RootBelow g (cond b (node v o (enter build n r)) (fresh build (joined build o v (value build r)) n)))
-      [ true ↦ h | false ↦ e ]
-
-  -- the tree of a cut, whose left side begins with the spine
-  abbrev pub parts : Spine T → Cut T → Option (Place T)
-  parts s c = joined build c.link.operator (value build (enter_all build s c.before)) (value build (enter_all build (leaf c.link.place) c.after))
-
-  abbrev here : Link T → List (Link T) → Cut T
-  here l ls = record { before = []; link = l; after = ls }
-
-  -- at an operator that the root doesn't hold, and that holds all that follow
-  cut-here : (s : Spine T) (l : Link T) (ls : List (Link T)) → enter build l s ≡ fresh build (value build s) l → Held l.operator ls
-      → value build (enter_all build s (l ∷ ls)) ≡ parts s (here l ls)
-  cut-here s l ls e h = ap (λ t. value build (enter_all build t ls)) e ∙ ap (value build) (enter_all-held (value build s) l.operator (leaf l.place) ls h)
-
-  -- the leftmost
-  abbrev LeftClaim : ℕ → Spine T → List (Link T) → Option (Cut T) → Type 0
-  LeftClaim g s ls None = AllBelow g ls
-  LeftClaim g s ls (Some c) = leans_right c.link.operator.kind ≡ true → value build (enter_all build s ls) ≡ parts s c
-
-  left-later : (g : ℕ) (s : Spine T) (l : Link T) (ls : List (Link T)) (o : Option (Cut T)) → l.operator.priority < g → LeftClaim g (enter build l s) ls o
-      → LeftClaim g s (l ∷ ls) (option_and_then (λ c. Some (later l c)) o)
-  left-later g s l ls None p h = (p, h)
-  left-later g s l ls (Some c) p h = h
-
-  eq_true : (a b : ℕ) → nat_eq a b ≡ true → a ≡ b
-  eq_true a b e = grind (arith, nat_tests)
-
-  eq_false : (a b : ℕ) → nat_eq a b ≡ false → a ≤ b → a < b
-  eq_false a b e p = grind (arith, nat_tests)
-
-  left-is : (g : ℕ) (s : Spine T) (ls : List (Link T)) → RootBelow g s → greatest ls ≤ g → LeftClaim g s ls (leftmost g ls)
-  left-is g s [] r m = tt
-  left-is g s (l ∷ ls) r m =
-      let goal : Bool → Type 0 = λ b. nat_eq l.operator.priority g ≡ b
-      → LeftClaim g s (l ∷ ls) (cond b (Some (here l ls)) (option_and_then (λ c. Some (later l c)) (leftmost g ls))) in
-      let split : goal (nat_eq l.operator.priority g) = elim (nat_eq l.operator.priority g) as goal [
-        | true ↦ λ e k.
-            let p = eq_true l.operator.priority g e in
-            cut-here s l ls (enter-below g l s r (omega arith)) (Held-right l.operator ls k (omega arith))
-        | false ↦ λ e.
-            let p = eq_false l.operator.priority g e (omega arith) in
-            left-later g s l ls (leftmost g ls) p (left-is g (enter build l s) ls (RootBelow-enter g l s r p) (omega arith))
-      ] in
-      split refl
-
   -- a root that can't be applied, whatever comes on its right
   abbrev pub Lost : Spine T → Type 0
   Lost (leaf p) = ⊥
@@ -239,7 +103,7 @@ module _ {T : Type 0} (build : Builder T) where
       let split : goal (holds o l.operator) = elim (holds o l.operator) as goal [
         | true ↦ λ k. h
         | false ↦ λ k.
-            let p = test_free o.priority l.operator.priority (leans_right o.kind) k in
+            let p = test_free build o.priority l.operator.priority (leans_right o.kind) k in
             let q = h.0 in
             Settled-fresh g (node v o r) l h (omega arith)
       ] in
@@ -247,16 +111,16 @@ module _ {T : Type 0} (build : Builder T) where
 
   -- the rightmost
   abbrev RightClaim : ℕ → Spine T → List (Link T) → Option (Cut T) → Type 0
-  RightClaim g s ls None = AllBelow g ls
-  RightClaim g s ls (Some c) = value build (enter_all build s ls) ≡ parts s c
+  RightClaim g s ls None = AllBelow build g ls
+  RightClaim g s ls (Some c) = value build (enter_all build s ls) ≡ parts build s c
 
-  settled-here : (g : ℕ) (s : Spine T) (l : Link T) (ls : List (Link T)) → Settled g s → l.operator.priority ≡ g → AllBelow g ls
-      → value build (enter_all build s (l ∷ ls)) ≡ parts s (here l ls)
+  settled-here : (g : ℕ) (s : Spine T) (l : Link T) (ls : List (Link T)) → Settled g s → l.operator.priority ≡ g → AllBelow build g ls
+      → value build (enter_all build s (l ∷ ls)) ≡ parts build s (here build l ls)
   settled-here g (leaf p) l ls h e b = absurd h
   settled-here g (node v o r) l ls h e b =
       elim h.1 [
-        | inl k ↦ cut-here (node v o r) l ls (enter-free build l v o r (holds-equal o l.operator k (h.0 ∙ sym e)))
-            (Held-below l.operator ls (subst (λ n. AllBelow n ls) (sym e) b))
+        | inl k ↦ cut-here build (node v o r) l ls (enter-free build l v o r (holds-equal build o l.operator k (h.0 ∙ sym e)))
+            (Held-below build l.operator ls (subst (λ n. AllBelow build n ls) (sym e) b))
         | inr lost ↦ Lost-enter_all (node v o r) (l ∷ ls) lost
             ∙ sym (joined-none l.operator (value build (node v o r)) (value build (enter_all build (leaf l.place) ls)) (Lost-value (node v o r) lost))
       ]
@@ -265,11 +129,11 @@ module _ {T : Type 0} (build : Builder T) where
   right-later : (g : ℕ) (s : Spine T) (l : Link T) (ls : List (Link T)) (o : Option (Cut T)) (b : Bool) → nat_eq l.operator.priority g ≡ b
       → l.operator.priority ≤ g
       → RightClaim g (enter build l s) ls o
-      → (l.operator.priority ≡ g → AllBelow g ls → value build (enter_all build s (l ∷ ls)) ≡ parts s (here l ls))
-      → RightClaim g s (l ∷ ls) (or_else (option_and_then (λ c. Some (later l c)) o) (cond b (Some (here l ls)) None))
+      → (l.operator.priority ≡ g → AllBelow build g ls → value build (enter_all build s (l ∷ ls)) ≡ parts build s (here build l ls))
+      → RightClaim g s (l ∷ ls) (or_else (option_and_then (λ c. Some (later l c)) o) (cond b (Some (here build l ls)) None))
   right-later g s l ls (Some c) b e p h at = h
-  right-later g s l ls None true e p h at = at (eq_true l.operator.priority g e) h
-  right-later g s l ls None false e p h at = (eq_false l.operator.priority g e p, h)
+  right-later g s l ls None true e p h at = at (eq_true build l.operator.priority g e) h
+  right-later g s l ls None false e p h at = (eq_false build l.operator.priority g e p, h)
 
   settled-is : (g : ℕ) (s : Spine T) (ls : List (Link T)) → Settled g s → greatest ls ≤ g → RightClaim g s ls (rightmost g ls)
   settled-is g s [] r m = tt
@@ -286,23 +150,23 @@ module _ {T : Type 0} (build : Builder T) where
   NotRight-later l None h = tt
   NotRight-later l (Some c) h = h
 
-  right-is : (g : ℕ) (s : Spine T) (ls : List (Link T)) → RootBelow g s → greatest ls ≤ g → NotRight (leftmost g ls) → RightClaim g s ls (rightmost g ls)
+  right-is : (g : ℕ) (s : Spine T) (ls : List (Link T)) → RootBelow build g s → greatest ls ≤ g → NotRight (leftmost g ls) → RightClaim g s ls (rightmost g ls)
   right-is g s [] r m k = tt
   right-is g s (l ∷ ls) r m k =
       let goal : Bool → Type 0 = λ b. nat_eq l.operator.priority g ≡ b
-      → NotRight (cond b (Some (here l ls)) (option_and_then (λ c. Some (later l c)) (leftmost g ls))) → RightClaim g s (l ∷ ls) (rightmost g (l ∷ ls)) in
-      let at : l.operator.priority ≡ g → AllBelow g ls → value build (enter_all build s (l ∷ ls)) ≡ parts s (here l ls)
-      = λ e b. cut-here s l ls (enter-below g l s r (omega arith)) (Held-below l.operator ls (subst (λ n. AllBelow n ls) (sym e) b)) in
+      → NotRight (cond b (Some (here build l ls)) (option_and_then (λ c. Some (later l c)) (leftmost g ls))) → RightClaim g s (l ∷ ls) (rightmost g (l ∷ ls)) in
+      let at : l.operator.priority ≡ g → AllBelow build g ls → value build (enter_all build s (l ∷ ls)) ≡ parts build s (here build l ls)
+      = λ e b. cut-here build s l ls (enter-below build g l s r (omega arith)) (Held-below build l.operator ls (subst (λ n. AllBelow build n ls) (sym e) b)) in
       let split : goal (nat_eq l.operator.priority g) = elim (nat_eq l.operator.priority g) as goal [
         | true ↦ λ e q.
-            let p = eq_true l.operator.priority g e in
+            let p = eq_true build l.operator.priority g e in
             let fits : Settled g (fresh build (value build s) l) = (p, inl q) in
-            let next : Settled g (enter build l s) = subst (Settled g) (sym (enter-below g l s r (omega arith))) fits in
+            let next : Settled g (enter build l s) = subst (Settled g) (sym (enter-below build g l s r (omega arith))) fits in
             right-later g s l ls (rightmost g ls) (nat_eq l.operator.priority g) refl (omega arith) (settled-is g (enter build l s) ls next (omega arith)) at
         | false ↦ λ e q.
-            let p = eq_false l.operator.priority g e (omega arith) in
+            let p = eq_false build l.operator.priority g e (omega arith) in
             right-later g s l ls (rightmost g ls) (nat_eq l.operator.priority g) refl (omega arith)
-            (right-is g (enter build l s) ls (RootBelow-enter g l s r p) (omega arith) (NotRight-later l (leftmost g ls) q)) at
+            (right-is g (enter build l s) ls (RootBelow-enter build g l s r p) (omega arith) (NotRight-later l (leftmost g ls) q)) at
       ] in
       split refl k
 
@@ -315,13 +179,13 @@ module _ {T : Type 0} (build : Builder T) where
   Shorter-later l ls None h = tt
   Shorter-later l ls (Some c) h = omega arith
 
-  Shorter-here : (l : Link T) (ls : List (Link T)) → Shorter (l ∷ ls) (Some (here l ls))
+  Shorter-here : (l : Link T) (ls : List (Link T)) → Shorter (l ∷ ls) (Some (here build l ls))
   Shorter-here l ls = omega arith
 
   leftmost-Shorter : (g : ℕ) (ls : List (Link T)) → Shorter ls (leftmost g ls)
   leftmost-Shorter g [] = tt
   leftmost-Shorter g (l ∷ ls) =
-      elim (nat_eq l.operator.priority g) as (λ b. Shorter (l ∷ ls) (cond b (Some (here l ls)) (option_and_then (λ c. Some (later l c)) (leftmost g ls))))
+      elim (nat_eq l.operator.priority g) as (λ b. Shorter (l ∷ ls) (cond b (Some (here build l ls)) (option_and_then (λ c. Some (later l c)) (leftmost g ls))))
       [ true ↦ Shorter-here l ls | false ↦ Shorter-later l ls (leftmost g ls) (leftmost-Shorter g ls) ]
 
   Shorter-or_else : (ls : List (Link T)) (a b : Option (Cut T)) → Shorter ls a → Shorter ls b → Shorter ls (or_else a b)
@@ -331,19 +195,19 @@ module _ {T : Type 0} (build : Builder T) where
   rightmost-Shorter : (g : ℕ) (ls : List (Link T)) → Shorter ls (rightmost g ls)
   rightmost-Shorter g [] = tt
   rightmost-Shorter g (l ∷ ls) =
-      Shorter-or_else (l ∷ ls) (option_and_then (λ c. Some (later l c)) (rightmost g ls)) (cond (nat_eq l.operator.priority g) (Some (here l ls)) None)
+      Shorter-or_else (l ∷ ls) (option_and_then (λ c. Some (later l c)) (rightmost g ls)) (cond (nat_eq l.operator.priority g) (Some (here build l ls)) None)
       (Shorter-later l ls (rightmost g ls) (rightmost-Shorter g ls))
-      (elim (nat_eq l.operator.priority g) as (λ b. Shorter (l ∷ ls) (cond b (Some (here l ls)) None)) [ true ↦ Shorter-here l ls | false ↦ tt ])
+      (elim (nat_eq l.operator.priority g) as (λ b. Shorter (l ∷ ls) (cond b (Some (here build l ls)) None)) [ true ↦ Shorter-here l ls | false ↦ tt ])
 
   -- what the weakest operator's cut says of the spine
   abbrev WeakestClaim : Spine T → List (Link T) → Option (Cut T) → Type 0
   WeakestClaim s ls None = ⊥
-  WeakestClaim s ls (Some c) = (value build (enter_all build s ls) ≡ parts s c) × (suc (length c.before + length c.after) ≡ length ls)
+  WeakestClaim s ls (Some c) = (value build (enter_all build s ls) ≡ parts build s c) × (suc (length c.before + length c.after) ≡ length ls)
 
-  some_below : (l : Link T) (ls : List (Link T)) → AllBelow (greatest (l ∷ ls)) (l ∷ ls) → ⊥
+  some_below : (l : Link T) (ls : List (Link T)) → AllBelow build (greatest (l ∷ ls)) (l ∷ ls) → ⊥
   some_below l ls h =
       let p : l.operator.priority < greatest (l ∷ ls) = h.0 in
-      let q = AllBelow-greatest (greatest (l ∷ ls)) (l ∷ ls) h (omega arith) in
+      let q = AllBelow-greatest build (greatest (l ∷ ls)) (l ∷ ls) h (omega arith) in
       absurd (omega arith)
 
   rightmost-claim : (s : Spine T) (l : Link T) (ls : List (Link T)) (o : Option (Cut T)) → RightClaim (greatest (l ∷ ls)) s (l ∷ ls) o → Shorter (l ∷ ls) o
@@ -352,7 +216,7 @@ module _ {T : Type 0} (build : Builder T) where
   rightmost-claim s l ls (Some c) h k = (h, k)
 
   weakest-claim : (s : Spine T) (l : Link T) (ls : List (Link T)) (o : Option (Cut T))
-      → LeftClaim (greatest (l ∷ ls)) s (l ∷ ls) o → Shorter (l ∷ ls) o
+      → LeftClaim build (greatest (l ∷ ls)) s (l ∷ ls) o → Shorter (l ∷ ls) o
       → (NotRight o → WeakestClaim s (l ∷ ls) (rightmost (greatest (l ∷ ls)) (l ∷ ls)))
       → WeakestClaim s (l ∷ ls) (option_and_then (λ c. cond (leans_right c.link.operator.kind) (Some c) (rightmost (greatest (l ∷ ls)) (l ∷ ls))) o)
   weakest-claim s l ls None h k right = some_below l ls h
@@ -365,7 +229,7 @@ module _ {T : Type 0} (build : Builder T) where
   weakest-is : (first : Place T) (l : Link T) (ls : List (Link T)) → WeakestClaim (leaf first) (l ∷ ls) (weakest (l ∷ ls))
   weakest-is first l ls =
       let g = greatest (l ∷ ls) in
-      weakest-claim (leaf first) l ls (leftmost g (l ∷ ls)) (left-is g (leaf first) (l ∷ ls) tt (omega arith)) (leftmost-Shorter g (l ∷ ls))
+      weakest-claim (leaf first) l ls (leftmost g (l ∷ ls)) (left-is build g (leaf first) (l ∷ ls) tt (omega arith)) (leftmost-Shorter g (l ∷ ls))
       (λ k. rightmost-claim (leaf first) l ls (rightmost g (l ∷ ls)) (right-is g (leaf first) (l ∷ ls) tt (omega arith) k) (rightmost-Shorter g (l ∷ ls)))
 
   abbrev split_by : (Place T → List (Link T) → Option (Place T)) → Place T → Option (Cut T) → Option (Place T)

@@ -2,10 +2,14 @@
 ghost use Rattle.std.specs.Prelude.{◌≡◌};
 ghost use Rattle.std.specs.Int.{IsNonNegative};
 ghost use Rattle.plai_reader.specs.Climb.{Gives};
-ghost use Rattle.plai_reader.specs.Roles.{signed, bracketed, nil, is_open, is_close_list, is_integer, is_end, is_edge, next_is, tight_next, is_infix_or_postfix, name_starts, starts, starts_next, is_minus, operator, named, functor_or_name, at_nil, where_wanted, operating, at_comma, at_bar, at_close, at_close_list, where_operating, decided};
+ghost use Rattle.plai_reader.specs.Roles.{signed, bracketed, operator, named, functor_or_name, at_nil, where_wanted, operating, at_comma, at_bar, at_close, at_close_list, where_operating, decided};
 ghost use Rattle.plai_lex.specs.Tokens.{IsWritten};
 ghost use Rattle.plai_reader.specs.States.{Makes};
 
+use crate::ahead::{
+    can_start_next, is_close_list_next, is_edge_next, is_infix_or_postfix, is_minus,
+    is_tight_open_next,
+};
 use crate::operator::{Class, Definition, Operator};
 use crate::state::{Action, Bracket, Leaf, Mode, Pending};
 use crate::stop::Stop;
@@ -13,110 +17,6 @@ use crate::table::OpTable;
 use plai_lex::{Token, TokenKind};
 use plai_terms::Name;
 use std::alloc::Global;
-
-/// Whether the token ends a term.
-pub fn is_end(kind: &TokenKind) -> bool
-    ensures { result ≡ is_end kind.now }
-{
-    matches!(kind, TokenKind::End)
-}
-
-/// Whether a token is a bracket, a comma, a bar or the end.
-pub fn is_edge(kind: &TokenKind) -> bool
-    ensures { result ≡ is_edge kind.now }
-{
-    matches!(
-        kind,
-        TokenKind::Open
-            | TokenKind::Close
-            | TokenKind::OpenList
-            | TokenKind::CloseList
-            | TokenKind::Comma
-            | TokenKind::Bar
-            | TokenKind::End
-    )
-}
-
-fn is_edge_next(rest: &[Token]) -> bool
-    ensures { result ≡ next_is is_edge rest.now }
-{
-    match rest.first() {
-        None => false,
-        Some(next) => is_edge(&next.kind),
-    }
-}
-
-fn is_close_list_next(rest: &[Token]) -> bool
-    ensures { result ≡ next_is is_close_list rest.now }
-{
-    match rest.first() {
-        None => false,
-        Some(next) => matches!(next.kind, TokenKind::CloseList),
-    }
-}
-
-fn is_tight_open_next(rest: &[Token]) -> bool
-    ensures { result ≡ tight_next is_open rest.now }
-{
-    match rest.first() {
-        None => false,
-        Some(next) => matches!(next.kind, TokenKind::Open) && next.tight,
-    }
-}
-
-fn is_tight_integer_next(rest: &[Token]) -> bool
-    ensures { result ≡ tight_next is_integer rest.now }
-{
-    match rest.first() {
-        None => false,
-        Some(next) => matches!(next.kind, TokenKind::Int(_)) && next.tight,
-    }
-}
-
-fn is_infix_or_postfix(ops: &OpTable, name: &Name) -> bool
-    ensures { result ≡ is_infix_or_postfix ops.now name.now }
-{
-    ops.find(Class::Infix, name).is_some() || ops.find(Class::Postfix, name).is_some()
-}
-
-/// Whether a name can start an operand.
-fn can_name_start(ops: &OpTable, name: &Name, rest: &[Token]) -> bool
-    ensures { result ≡ name_starts ops.now name.now rest.now }
-{
-    !is_infix_or_postfix(ops, name)
-        || ops.find(Class::Prefix, name).is_some()
-        || is_tight_open_next(rest)
-}
-
-/// Whether a token can start an operand.
-fn can_start(ops: &OpTable, kind: &TokenKind, rest: &[Token]) -> bool
-    ensures { result ≡ starts ops.now kind.now rest.now }
-{
-    match kind {
-        TokenKind::Name(name) | TokenKind::Quoted(name) => can_name_start(ops, name, rest),
-        TokenKind::Var(_)
-        | TokenKind::Int(_)
-        | TokenKind::Text(_)
-        | TokenKind::Open
-        | TokenKind::OpenList => true,
-        _ => false,
-    }
-}
-
-fn can_start_next(ops: &OpTable, rest: &[Token]) -> bool
-    ensures { result ≡ starts_next ops.now rest.now }
-{
-    match rest.split_first() {
-        None => false,
-        Some((next, after)) => can_start(ops, &next.kind, after),
-    }
-}
-
-fn is_minus(name: &Name, rest: &[Token]) -> bool
-    ensures { result ≡ is_minus name.now rest.now }
-{
-    name.as_slice() == b"-".as_slice() && is_tight_integer_next(rest)
-}
 
 fn operator(alloc: Global, name: &Name, definition: Definition) -> Result<Operator, Stop>
     ensures { Makes (operator name.now definition) result }

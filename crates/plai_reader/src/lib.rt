@@ -1,6 +1,7 @@
 //! Reads terms of a profile of ISO Prolog from their tokens, under a table of operators (ISO/IEC 13211-1:1995, 6.3).
 #![tactic(auto)]
 
+mod ahead;
 mod build;
 mod by_name;
 mod climb;

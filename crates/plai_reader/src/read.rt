@@ -8,8 +8,9 @@ ghost use Rattle.plai_lex.specs.Tokens.{IsWritten};
 ghost use Rattle.plai_reader.specs.States.{state_of, Steps, Reads, IsAnswer};
 ghost use Rattle.plai_reader.specs.Variables.{variables_of};
 
+use crate::ahead::{is_edge, is_end};
 use crate::build::{limit, take_item};
-use crate::decide::{decide, is_edge, is_end};
+use crate::decide::decide;
 use crate::fail::ReadTermFail;
 use crate::state::{Bracket, Level, Mode, Pending, Read, Reader};
 use crate::steps::{open, perform};

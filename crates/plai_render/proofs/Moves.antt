@@ -1,16 +1,8 @@
 -- Rows that are moved to another list, sorted there and moved back.
 use Rattle.std.proofs.Common.{◌≡◌, List, [], ◌∷◌, ◌++◌, map, reverse, sym, ap, ◌∙◌, subst, IsPermutation}
 use Rattle.std.proofs.lemmas.List.{map-append, reverse-reverse}
-use Rattle.std.proofs.lemmas.List.Sorted.{
-  IsPermutation-trans,
-  IsPermutation-to_front,
-  IsPermutation-pop_more,
-  IsPermutation-append_left,
-  IsPermutation-append_right,
-  IsPermutation-append_comm,
-  IsPermutation-reverse,
-  IsPermutation-map,
-}
+use Rattle.std.proofs.lemmas.List.Sorted.{IsPermutation-trans, IsPermutation-to_front, IsPermutation-pop_more, IsPermutation-append_left}
+use Rattle.std.proofs.lemmas.List.Sorted.{IsPermutation-append_right, IsPermutation-append_comm, IsPermutation-reverse, IsPermutation-map}
 
 module _ {X Y : Type 0} (f : Y → X) where
   -- the last of what is left goes to the end of what is moved

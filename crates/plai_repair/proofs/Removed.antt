@@ -1,43 +1,6 @@
 -- Rows that are removed one after another.
-use Rattle.std.proofs.Common.{
-  ◌≡◌,
-  ◌≢◌,
-  ◌⊎◌,
-  ℕ,
-  zero,
-  suc,
-  ◌+◌,
-  ◌-◌,
-  ◌<◌,
-  ◌≤◌,
-  Bool,
-  true,
-  false,
-  nat_eq,
-  eqb-true,
-  nat_lt,
-  List,
-  [],
-  ◌∷◌,
-  length,
-  get_or,
-  slice_get,
-  slice_set,
-  take,
-  Option,
-  Some,
-  None,
-  IfSome,
-  IfNone,
-  sym,
-  refl,
-  ap,
-  ◌∙◌,
-  subst,
-  inl,
-  inr,
-  arith,
-}
+use Rattle.std.proofs.Common.{◌≡◌, ◌≢◌, ◌⊎◌, ℕ, zero, suc, ◌+◌, ◌-◌, ◌<◌, ◌≤◌, Bool, true, false, nat_eq, eqb-true, nat_lt, List, [], ◌∷◌, length, get_or}
+use Rattle.std.proofs.Common.{slice_get, slice_set, take, Option, Some, None, IfSome, IfNone, sym, refl, ap, ◌∙◌, subst, inl, inr, arith}
 use Rattle.std.specs.List.{swap_remove, slice_index_or}
 use Rattle.std.proofs.lemmas.Bool.{ltb-true, ltb-false}
 use Rattle.std.proofs.lemmas.Option.{slice_get_within, slice_get_past, slice_get-get_or}
@@ -48,30 +11,8 @@ use Rattle.plai_arcs.specs.Arcs.{is_dirty, is_call}
 use Rattle.plai_arcs.specs.Moves.{was, of_row}
 use Rattle.plai_table.specs.Rows.{TableRow}
 use Rattle.plai_repair.specs.Removal.{Renumbers, IsTaken, Removes}
-use Rattle.plai_repair.proofs.Renumbered.{
-  back,
-  after,
-  at_after,
-  of_after,
-  of_same,
-  given_same,
-  of_swap,
-  other_is,
-  was_moved,
-  was_last,
-  was_else,
-  was_gone,
-  was_there,
-  was_back,
-  was_onto,
-  was_below,
-  of_both,
-  same_numbers,
-  same_at,
-  same_past,
-  same_is,
-  of_numbers,
-}
+use Rattle.plai_repair.proofs.Renumbered.{back, after, at_after, of_after, of_same, given_same, of_swap, other_is, was_moved, was_last, was_else, was_gone}
+use Rattle.plai_repair.proofs.Renumbered.{was_there, was_back, was_onto, was_below, of_both, same_numbers, same_at, same_past, same_is, of_numbers}
 
 module _ {V : Type 0} where
   pub renumbers_then : (had then : ℕ → Option ℕ) (rows mid new : List (TableRow V)) (arcs mid_arcs new_arcs : Arcs) → Renumbers had rows arcs mid mid_arcs

@@ -1,28 +1,6 @@
 -- Numbers of rows before and after one of them goes.
-use Rattle.std.proofs.Common.{
-  ◌≡◌,
-  ◌≢◌,
-  ℕ,
-  ◌<◌,
-  ◌≤◌,
-  Bool,
-  true,
-  false,
-  cond,
-  nat_eq,
-  eqb-true,
-  nat_lt,
-  Option,
-  Some,
-  None,
-  IfSome,
-  sym,
-  refl,
-  ap,
-  ◌∙◌,
-  subst,
-  arith,
-}
+use Rattle.std.proofs.Common.{◌≡◌, ◌≢◌, ℕ, ◌<◌, ◌≤◌, Bool, true, false, cond, nat_eq, eqb-true, nat_lt, Option, Some, None, IfSome, sym, refl, ap, ◌∙◌, subst}
+use Rattle.std.proofs.Common.{arith}
 use Rattle.std.proofs.lemmas.Bool.{eq-eqb, lt-ltb, le-ltb, ltb-true, ltb-false}
 use Rattle.plai_theory.specs.Words.{given}
 use Rattle.plai_theory.proofs.Options.{by_test}

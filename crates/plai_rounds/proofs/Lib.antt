@@ -11,6 +11,7 @@ pub mod Ends
 pub mod Working
 pub mod Sweeping
 pub mod Reaching
+pub mod ReachSteps
 pub mod Narrow
 pub mod LeastRows
 pub mod Seen

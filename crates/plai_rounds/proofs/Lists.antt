@@ -1,35 +1,6 @@
 -- Members and places of lists.
-use Rattle.std.proofs.Common.{
-  ◌≡◌,
-  ℕ,
-  zero,
-  suc,
-  ◌+◌,
-  ◌<◌,
-  List,
-  [],
-  ◌∷◌,
-  ◌++◌,
-  map,
-  length,
-  get_or,
-  slice_get,
-  Option,
-  Some,
-  None,
-  Result,
-  Ok,
-  Err,
-  IfErr,
-  IsErrAnd,
-  Bor,
-  sym,
-  refl,
-  ap,
-  inl,
-  inr,
-  arith,
-}
+use Rattle.std.proofs.Common.{◌≡◌, ℕ, zero, suc, ◌+◌, ◌<◌, List, [], ◌∷◌, ◌++◌, map, length, get_or, slice_get, Option, Some, None, Result, Ok, Err, IfErr}
+use Rattle.std.proofs.Common.{IsErrAnd, Bor, sym, refl, ap, inl, inr, arith}
 use Rattle.std.specs.Option.{option_map, option_copied}
 use Rattle.plai_theory.specs.Words.{IsIn}
 

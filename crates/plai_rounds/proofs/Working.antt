@@ -1,31 +1,6 @@
 -- The evaluation of a clause of a row, worked into the rows.
-use Rattle.std.proofs.Common.{
-  ◌≡◌,
-  ℕ,
-  zero,
-  suc,
-  ◌<◌,
-  ◌≤◌,
-  Bool,
-  true,
-  false,
-  List,
-  [],
-  ◌∷◌,
-  map,
-  length,
-  slice_get,
-  Option,
-  Some,
-  None,
-  sym,
-  refl,
-  ap,
-  ◌∙◌,
-  subst,
-  inr,
-  arith,
-}
+use Rattle.std.proofs.Common.{◌≡◌, ℕ, zero, suc, ◌<◌, ◌≤◌, Bool, true, false, List, [], ◌∷◌, map, length, slice_get, Option, Some, None, sym, refl, ap, ◌∙◌}
+use Rattle.std.proofs.Common.{subst, inr, arith}
 use Rattle.std.specs.Option.{option_map}
 use Rattle.plai_theory.specs.Words.{IsIn, UpTo}
 use Rattle.plai_theory.specs.Domain.{Name}

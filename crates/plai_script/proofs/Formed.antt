@@ -1,33 +1,6 @@
 -- What the terms of entries and assertions say is well formed.
-use Rattle.std.proofs.Common.{
-  ◌≡◌,
-  ◌∙◌,
-  ℕ,
-  ◌+◌,
-  ◌≤◌,
-  ◌<◌,
-  Bool,
-  true,
-  false,
-  not,
-  ◌&&◌,
-  cond,
-  Option,
-  Some,
-  None,
-  Result,
-  Ok,
-  Err,
-  List,
-  [],
-  ◌∷◌,
-  length,
-  refl,
-  ap,
-  subst,
-  arith,
-  codes,
-}
+use Rattle.std.proofs.Common.{◌≡◌, ◌∙◌, ℕ, ◌+◌, ◌≤◌, ◌<◌, Bool, true, false, not, ◌&&◌, cond, Option, Some, None, Result, Ok, Err, List, [], ◌∷◌, length}
+use Rattle.std.proofs.Common.{refl, ap, subst, arith, codes}
 use Rattle.std.specs.Prelude.{All, option_map, option_and_then, position, nat_le, nat_eq}
 use Rattle.std.specs.Cmp.Lexicographic.{pointwise}
 use Rattle.std.proofs.lemmas.Bool.Decides.{nat_tests}
@@ -51,33 +24,9 @@ use Rattle.plai_sources.specs.declared.properties.Call.{Call}
 use Rattle.plai_sources.specs.declared.items.EntryItem.{EntryItem}
 use Rattle.plai_sources.specs.declared.items.CheckItem.{CheckItem}
 use Rattle.plai_sources.specs.Shapes.{variable_of, one_argument, each}
-use Rattle.plai_sources.specs.Properties.{
-  are_distinct,
-  open_goal,
-  goal_at,
-  goal_in,
-  goal_of,
-  place_among,
-  place_of,
-  property_named,
-  apart,
-  property_at,
-  property_in,
-  property_of,
-  properties_of,
-  call,
-  call_with,
-  call_from,
-  call_of,
-  entry,
-  entry_of,
-  check,
-  calls_of,
-  success_with,
-  success_of,
-  check_from,
-  check_of,
-}
+use Rattle.plai_sources.specs.Properties.{are_distinct, open_goal, goal_at, goal_in, goal_of, place_among, place_of, property_named, apart, property_at}
+use Rattle.plai_sources.specs.Properties.{property_in, property_of, properties_of, call, call_with, call_from, call_of, entry, entry_of, check, calls_of}
+use Rattle.plai_sources.specs.Properties.{success_with, success_of, check_from, check_of}
 use Rattle.plai_sources.specs.WellFormed.{IsEntryItem, IsCheckItem}
 use Rattle.plai_sources.proofs.Each.{length-each, All-each}
 use Rattle.plai_script.specs.Edits.{entry_said, check_said}

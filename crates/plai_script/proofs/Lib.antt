@@ -1,5 +1,6 @@
 mod Variables
 mod Parts
+mod EditTerms
 mod Formed
 mod Taken
 mod Changed

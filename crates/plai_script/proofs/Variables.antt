@@ -1,36 +1,6 @@
 -- The variables of a term, each once, and the term over their places.
-use Rattle.std.proofs.Common.{
-  ◌≡◌,
-  ◌∙◌,
-  ℕ,
-  ◌+◌,
-  ◌<◌,
-  ◌≤◌,
-  ◌^◌,
-  Bool,
-  true,
-  false,
-  ◌||◌,
-  ◌&&◌,
-  cond,
-  nat_eq,
-  List,
-  [],
-  ◌∷◌,
-  ◌++◌,
-  map,
-  flat_map,
-  length,
-  take,
-  get_or,
-  append-nil,
-  refl,
-  sym,
-  ap,
-  subst,
-  arith,
-  rules,
-}
+use Rattle.std.proofs.Common.{◌≡◌, ◌∙◌, ℕ, ◌+◌, ◌<◌, ◌≤◌, ◌^◌, Bool, true, false, ◌||◌, ◌&&◌, cond, nat_eq, List, [], ◌∷◌, ◌++◌, map, flat_map, length, take}
+use Rattle.std.proofs.Common.{get_or, append-nil, refl, sym, ap, subst, arith, rules}
 use Rattle.std.specs.Prelude.{nat_lt, unwrap_or, position, Option, Some, None}
 use Rattle.std.specs.List.{list_any, list_all, position_or_len, AllByRecursion, IsDistinct}
 use Rattle.std.proofs.lemmas.Bool.{eqb-true, eq-eqb}

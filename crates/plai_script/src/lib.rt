@@ -5,6 +5,7 @@ mod change;
 mod edit;
 mod fail;
 mod own_term;
+mod said;
 mod script;
 mod shape;
 

@@ -1,52 +1,14 @@
 -- Unions of groups, one more group at a time.
-use Rattle.std.proofs.Common.{
-  ◌≡◌,
-  ℕ,
-  ◌+◌,
-  ◌<◌,
-  ◌≤◌,
-  true,
-  bit_or,
-  List,
-  [],
-  ◌∷◌,
-  ◌++◌,
-  map,
-  length,
-  take,
-  drop,
-  get_or,
-  Option,
-  None,
-  Some,
-  refl,
-  sym,
-  ap,
-  subst,
-  ◌∙◌,
-  inl,
-  inr,
-  arith,
-}
+use Rattle.std.proofs.Common.{◌≡◌, ℕ, ◌+◌, ◌<◌, ◌≤◌, true, bit_or, List, [], ◌∷◌, ◌++◌, map, length, take, drop, get_or, Option, None, Some, refl, sym, ap}
+use Rattle.std.proofs.Common.{subst, ◌∙◌, inl, inr, arith}
 use Rattle.std.proofs.lemmas.List.{take_more, take_all, take-append-drop}
 use Rattle.plai_base.specs.Sets.{has}
 use Rattle.plai_domain.specs.Outcomes.{most_groups}
 use Rattle.plai_share_laws.specs.Groups.{normal, star, bin}
 use Rattle.plai_share_laws.proofs.Members.{IsIn, IsWithin}
 use Rattle.plai_share_laws.proofs.Lists.{by_either, in_append, append_left, append_right, in_map, map_in, in_normal, normal_in, normal_ascending, contains_in}
-use Rattle.plai_share_laws.proofs.Sets.{
-  or_comm,
-  or_assoc,
-  star_join,
-  in_star,
-  star_within,
-  in_bin,
-  bin_in,
-  bin_within,
-  map_within,
-  append_within,
-  normal_within,
-}
+use Rattle.plai_share_laws.proofs.Sets.{or_comm, or_assoc, star_join, in_star, star_within, in_bin, bin_in, bin_within, map_within, append_within}
+use Rattle.plai_share_laws.proofs.Sets.{normal_within}
 use Rattle.plai_share_laws.proofs.Order.{less_long}
 use Rattle.plai_share_laws.proofs.Loops.{star_push, star_so_far}
 use Rattle.plai_share.specs.Formed.{IsFormed, IsShortened}

@@ -1,33 +1,6 @@
 -- Ascending lists without repeats, as sorts and searches make and use them.
-use Rattle.std.proofs.Common.{
-  ◌≡◌,
-  ℕ,
-  zero,
-  suc,
-  ◌+◌,
-  ◌<◌,
-  ◌≤◌,
-  true,
-  false,
-  nat_lt,
-  nat_eq,
-  List,
-  [],
-  ◌∷◌,
-  length,
-  get_or,
-  refl,
-  sym,
-  subst,
-  inl,
-  inr,
-  eqb,
-  arith,
-  Result,
-  Ok,
-  Err,
-  is_ok,
-}
+use Rattle.std.proofs.Common.{◌≡◌, ℕ, zero, suc, ◌+◌, ◌<◌, ◌≤◌, true, false, nat_lt, nat_eq, List, [], ◌∷◌, length, get_or, refl, sym, subst, inl, inr, eqb}
+use Rattle.std.proofs.Common.{arith, Result, Ok, Err, is_ok}
 use Rattle.std.specs.Ordering.{is_lt, nat_cmp}
 use Rattle.std.specs.List.{Contains, AllPairs, dedup}
 use Rattle.std.specs.List.Sorted.{IsPermutation, IsNonDecreasing, IsSorted, IsStrictlyIncreasing}

@@ -25,7 +25,7 @@ use Rattle.plai_share_laws.proofs.Masks.{by_test}
 use Rattle.plai_share_laws.proofs.Parts.{first_describes}
 use Rattle.plai_share_laws.proofs.Meaning.{Instance, IsInstance, arguments, AreBelow as SidesBelow, first_terms}
 use Rattle.plai_share_laws.proofs.Meaning as meaning
-use Rattle.plai_share_laws.proofs.Extend.{IsLike, like_describes}
+use Rattle.plai_share_laws.proofs.NewSlots.{IsLike, like_describes}
 use Rattle.plai_share_laws.proofs.Back.{back_describes}
 use Rattle.plai_share_laws.proofs.Refine.{refine_describes}
 use Rattle.plai_share_laws.proofs.Compose.{IfValue, call_value, back_value, exit_value, refine_value}

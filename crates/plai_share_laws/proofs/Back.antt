@@ -1,33 +1,6 @@
 -- back and refine describe the instance after the substitution.
-use Rattle.std.proofs.Common.{
-  ◌≡◌,
-  ℕ,
-  zero,
-  suc,
-  ◌+◌,
-  ◌-◌,
-  ◌<◌,
-  ◌≤◌,
-  true,
-  false,
-  nat_lt,
-  bit_and,
-  List,
-  [],
-  ◌∷◌,
-  map,
-  length,
-  Some,
-  None,
-  refl,
-  sym,
-  ◌∙◌,
-  ap,
-  subst,
-  inl,
-  inr,
-  arith,
-}
+use Rattle.std.proofs.Common.{◌≡◌, ℕ, zero, suc, ◌+◌, ◌-◌, ◌<◌, ◌≤◌, true, false, nat_lt, bit_and, List, [], ◌∷◌, map, length, Some, None, refl, sym, ◌∙◌, ap}
+use Rattle.std.proofs.Common.{subst, inl, inr, arith}
 use Rattle.std.proofs.lemmas.Bool.Decides.{nat_tests}
 use Rattle.plai_base.specs.Mask.{mask_of, all_true}
 use Rattle.plai_base.proofs.Bits.{top_slot}
@@ -35,32 +8,16 @@ use Rattle.plai_share_laws.proofs.Values.{in_all}
 use Rattle.plai_share_laws.proofs.Members.{IsIn}
 use Rattle.plai_share_laws.specs.Groups.{Has}
 use Rattle.plai_share_laws.specs.Shares.{Shares, Side, Slot, Other, slots_of, first_slots, answered}
-use Rattle.plai_share_laws.proofs.Meaning.{
-  Instance,
-  IsInstance,
-  group,
-  Describes,
-  Change,
-  IsMoved,
-  Touches,
-  IsLocal,
-  Answers,
-  Renames,
-  IsUnifier,
-  first_terms,
-  side_occurs,
-  side_variable,
-  arguments,
-  extended,
-  AreBelow,
-}
+use Rattle.plai_share_laws.proofs.Meaning.{Instance, IsInstance, group, Describes, Change, IsMoved, Touches, IsLocal, Answers, Renames, IsUnifier}
+use Rattle.plai_share_laws.proofs.Meaning.{first_terms, side_occurs, side_variable, arguments, extended, AreBelow}
 use Rattle.plai_share_laws.specs.Calls.{extend, back, raise}
 use Rattle.plai_share_laws.proofs.Masks.{by_test, not_both, same_mask, has_of, of_has, meets_at, meet_slot, from_has, has_from, and_left, and_right, has_and}
 use Rattle.plai_share_laws.proofs.Lists.{by_either, map_in}
 use Rattle.plai_share_laws.proofs.Unify.{only_variable}
 use Rattle.plai_share_laws.proofs.Local.{answered_describes}
 use Rattle.plai_share_laws.proofs.Parts.{raised_has, has_raised, raised_above, first_describes}
-use Rattle.plai_share_laws.proofs.Extend.{IsLike, like_describes, extend_describes, extend_slots, side_empty}
+use Rattle.plai_share_laws.proofs.Extend.{extend_describes, extend_slots}
+use Rattle.plai_share_laws.proofs.NewSlots.{IsLike, like_describes, side_empty}
 
 lower : (k n : ℕ) → nat_lt k n ≡ true → k < n
 lower k n t = grind (arith, nat_tests)

@@ -1,32 +1,6 @@
 -- The operations describe the instances that functions from variables to terms make.
-use Rattle.std.proofs.Common.{
-  ◌≡◌,
-  ℕ,
-  zero,
-  suc,
-  ◌+◌,
-  ◌-◌,
-  ◌<◌,
-  ◌≤◌,
-  Bool,
-  true,
-  false,
-  nat_lt,
-  List,
-  [],
-  ◌∷◌,
-  ◌++◌,
-  map,
-  length,
-  refl,
-  sym,
-  ap,
-  subst,
-  ◌∙◌,
-  inl,
-  inr,
-  arith,
-}
+use Rattle.std.proofs.Common.{◌≡◌, ℕ, zero, suc, ◌+◌, ◌-◌, ◌<◌, ◌≤◌, Bool, true, false, nat_lt, List, [], ◌∷◌, ◌++◌, map, length, refl, sym, ap, subst, ◌∙◌}
+use Rattle.std.proofs.Common.{inl, inr, arith}
 use Rattle.std.proofs.lemmas.Bool.{and_parts}
 use Rattle.std.proofs.lemmas.List.{length-map, length-append, map-append}
 use Rattle.plai_terms.specs.declared.term.Term.{Term}
@@ -44,7 +18,7 @@ use Rattle.plai_share_laws.proofs.Members.{IsIn}
 use Rattle.plai_share_laws.proofs.Ordered.{IsBelow}
 use Rattle.plai_share_laws.proofs.Meaning.{Instance, IsInstance, arguments, IsMoved}
 use Rattle.plai_share_laws.proofs.Meaning as meaning
-use Rattle.plai_share_laws.proofs.Extend.{like_describes}
+use Rattle.plai_share_laws.proofs.NewSlots.{like_describes}
 use Rattle.plai_share_laws.proofs.Placed.{placed, term_at, HaveBelow}
 use Rattle.plai_share_laws.proofs.Likes.{placed_like}
 use Rattle.plai_share_laws.proofs.Described.{described, shared}

@@ -6,53 +6,17 @@ use Rattle.plai_domain.specs.declared.action.Action.TheVariants as action
 use Rattle.plai_share_laws.specs.Groups.{Has, IsPart}
 use Rattle.plai_share_laws.specs.Shares.{Shares, Side, Slot, Other, slots_of, unify, widen, widen_by, answered, any_meets, var_at, nonvar_at}
 use Rattle.plai_share_laws.proofs.Ordered.{Leq, UpTo, IsValue, AreCovered}
-use Rattle.plai_share_laws.specs.Calls.{
-  unify_each,
-  each_formed,
-  enter,
-  extend,
-  call,
-  raise,
-  back,
-  exit,
-  side_at,
-  acted,
-  first_of_some,
-  refine,
-  enter_formed,
-  extend_formed,
-  back_formed,
-  acted_formed,
-  refine_formed,
-}
+use Rattle.plai_share_laws.specs.Calls.{unify_each, each_formed, enter, extend, call, raise, back, exit, side_at, acted, first_of_some, refine, enter_formed}
+use Rattle.plai_share_laws.specs.Calls.{extend_formed, back_formed, acted_formed, refine_formed}
 use Rattle.plai_share_laws.proofs.Meaning.{AreBelow}
 use Rattle.plai_share_laws.proofs.Masks.{by_test, has_of}
 use Rattle.plai_share_laws.proofs.Lists.{by_either, in_append, append_left, append_right}
 use Rattle.plai_share_laws.proofs.Sets.{map_within}
-use Rattle.plai_share_laws.proofs.Monotone.{
-  unify_leq,
-  unify_grows,
-  answered_leq,
-  answered_grows,
-  havocked_leq,
-  havocked_grows,
-  grounded_leq,
-  same_leq,
-  var_leq,
-  nonvar_leq,
-}
+use Rattle.plai_share_laws.proofs.Monotone.{unify_leq, unify_grows, answered_leq, answered_grows, havocked_leq, havocked_grows, grounded_leq, same_leq}
+use Rattle.plai_share_laws.proofs.Monotone.{var_leq, nonvar_leq}
 use Rattle.plai_share_laws.proofs.Parts.{widen_leq, first_leq, last_leq}
-use Rattle.plai_share_laws.proofs.Values.{
-  unify_value,
-  answered_value,
-  havocked_value,
-  grounded_value,
-  same_value,
-  freed_value,
-  widen_value,
-  first_value,
-  last_value,
-}
+use Rattle.plai_share_laws.proofs.Values.{unify_value, answered_value, havocked_value, grounded_value, same_value, freed_value, widen_value, first_value}
+use Rattle.plai_share_laws.proofs.Values.{last_value}
 use Rattle.plai_share_laws.proofs.Back.{raise_shift}
 
 pub covered_append : (xs ys us vs : List (List ℕ)) → AreCovered xs us → AreCovered ys vs → AreCovered (xs ++ ys) (us ++ vs)

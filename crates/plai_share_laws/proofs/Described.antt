@@ -1,33 +1,6 @@
 -- What describes lists of terms is what describes them as an instance.
-use Rattle.std.proofs.Common.{
-  ◌≡◌,
-  ℕ,
-  zero,
-  suc,
-  ◌+◌,
-  ◌-◌,
-  ◌<◌,
-  Bool,
-  true,
-  false,
-  nat_lt,
-  List,
-  [],
-  ◌∷◌,
-  map,
-  length,
-  get_or,
-  slice_index_or,
-  Some,
-  refl,
-  sym,
-  ap,
-  subst,
-  ◌∙◌,
-  inl,
-  inr,
-  arith,
-}
+use Rattle.std.proofs.Common.{◌≡◌, ℕ, zero, suc, ◌+◌, ◌-◌, ◌<◌, Bool, true, false, nat_lt, List, [], ◌∷◌, map, length, get_or, slice_index_or, Some, refl}
+use Rattle.std.proofs.Common.{sym, ap, subst, ◌∙◌, inl, inr, arith}
 use Rattle.plai_base.proofs.Bits.{pattern_slot}
 use Rattle.plai_terms.specs.declared.term.Term.{Term, Var}
 use Rattle.plai_terms.specs.Term.{occurs}

@@ -10,19 +10,8 @@ use Rattle.plai_terms.specs.declared.term.Term.TheOpen.{Term-F}
 use Rattle.plai_terms.specs.declared.term.Term.TheVariants.{rolls-Var, rolls-Int, rolls-Atom, rolls-Compound}
 use Rattle.plai_terms.specs.declared.outcome.Outcome.{Outcome}
 use Rattle.plai_terms.specs.declared.outcome.Outcome.TheVariants.{Unified, Clash, Occurs}
-use Rattle.plai_terms.proofs.MoveAt.{
-  var_var,
-  var_other,
-  int_var,
-  atom_var,
-  compound_var,
-  int_int,
-  atom_atom,
-  compound_compound,
-  int_other,
-  atom_other,
-  compound_other,
-}
+use Rattle.plai_terms.proofs.MoveAt.{var_var, var_other, int_var, atom_var, compound_var, int_int, atom_atom, compound_compound, int_other, atom_other}
+use Rattle.plai_terms.proofs.MoveAt.{compound_other}
 use Rattle.plai_terms.proofs.MoveLaws.{IsMove, IsSplit, move_is}
 use Rattle.plai_share_laws.proofs.Masks.{by_test}
 

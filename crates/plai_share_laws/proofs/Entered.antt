@@ -1,34 +1,6 @@
 -- enter, over terms.
-use Rattle.std.proofs.Common.{
-  ◌≡◌,
-  ℕ,
-  zero,
-  suc,
-  ◌+◌,
-  ◌-◌,
-  ◌<◌,
-  ◌≤◌,
-  Bool,
-  true,
-  false,
-  nat_lt,
-  nat_eq,
-  List,
-  [],
-  ◌∷◌,
-  map,
-  length,
-  Some,
-  refl,
-  sym,
-  ap,
-  subst,
-  ◌∙◌,
-  inl,
-  inr,
-  rules,
-  arith,
-}
+use Rattle.std.proofs.Common.{◌≡◌, ℕ, zero, suc, ◌+◌, ◌-◌, ◌<◌, ◌≤◌, Bool, true, false, nat_lt, nat_eq, List, [], ◌∷◌, map, length, Some, refl, sym, ap}
+use Rattle.std.proofs.Common.{subst, ◌∙◌, inl, inr, rules, arith}
 use Rattle.std.specs.List.{list_any, AllByRecursion}
 use Rattle.std.proofs.lemmas.Bool.{eq-eqb, eqb-true}
 use Rattle.std.proofs.lemmas.Bool.Decides.{nat_tests}
@@ -43,7 +15,7 @@ use Rattle.plai_share_laws.proofs.Meaning.{Instance, IsInstance, Describes, new_
 use Rattle.plai_share_laws.specs.Calls.{enter}
 use Rattle.plai_share_laws.proofs.Masks.{by_test, not_both}
 use Rattle.plai_share_laws.proofs.Lists.{by_either}
-use Rattle.plai_share_laws.proofs.Extend.{IsLike, like_describes, news_describe, news_other}
+use Rattle.plai_share_laws.proofs.NewSlots.{IsLike, like_describes, news_describe, news_other}
 use Rattle.plai_share_laws.proofs.Refine.{unified_describes, widened_slots}
 use Rattle.plai_share_laws.specs.Sides.{variable_of, side_of}
 use Rattle.plai_share_laws.proofs.Placed.{placed, change_of, HaveBelow, start_terms, AreSolved, solved}

@@ -23,23 +23,8 @@ use Rattle.plai_share_laws.proofs.Ordered as plain
 use Rattle.plai_share_laws.proofs.Meaning.{AreBelow}
 use Rattle.plai_share_laws.proofs.Order.{leq_antisym, join_value, join_left, join_right, join_least}
 use Rattle.plai_share_laws.proofs.Rank.{rank_falls, describe_value}
-use Rattle.plai_share_laws.proofs.Compose.{
-  IfValue,
-  enter_leq,
-  enter_grows,
-  extend_grows,
-  call_leq,
-  exit_leq,
-  back_leq,
-  back_grows,
-  refine_leq,
-  refine_grows,
-  enter_value,
-  call_value,
-  back_value,
-  exit_value,
-  refine_value,
-}
+use Rattle.plai_share_laws.proofs.Compose.{IfValue, enter_leq, enter_grows, extend_grows, call_leq, exit_leq, back_leq, back_grows, refine_leq, refine_grows}
+use Rattle.plai_share_laws.proofs.Compose.{enter_value, call_value, back_value, exit_value, refine_value}
 use Rattle.plai_share_laws.proofs.Lists.{in_map}
 use Rattle.plai_share_laws.proofs.TermMoves.{side_below}
 use Rattle.plai_share_laws.proofs.Canonical.{is_value, is_shares, in_order, leq_shares, shares_refl}

@@ -11,6 +11,7 @@ pub mod Unify
 pub mod Local
 pub mod Parts
 pub mod Bind
+pub mod NewSlots
 pub mod Extend
 pub mod Back
 pub mod Refine

@@ -10,7 +10,7 @@ use Rattle.plai_share_laws.specs.Sides.{variable_of}
 use Rattle.plai_share_laws.proofs.Masks.{by_test}
 use Rattle.plai_share_laws.proofs.Lists.{by_either}
 use Rattle.plai_share_laws.proofs.Meaning.{Instance, Change, Touches, IsLocal, Renames, IsUnifier, Allows}
-use Rattle.plai_share_laws.proofs.Extend.{IsLike}
+use Rattle.plai_share_laws.proofs.NewSlots.{IsLike}
 use Rattle.plai_share_laws.proofs.Placed.{placed}
 use Rattle.plai_share_laws.proofs.Tuples.{lower}
 

@@ -10,20 +10,8 @@ use Rattle.plai_share_laws.proofs.Masks.{by_test, not_both, same_mask, has_or, h
 use Rattle.plai_share_laws.proofs.Lists.{by_either, append_left, append_right, filter_in, normal_in, in_contains}
 use Rattle.plai_share_laws.proofs.Sets.{near_in}
 use Rattle.plai_share_laws.proofs.Gather.{gather}
-use Rattle.plai_share_laws.proofs.Unify.{
-  group_has,
-  has_group,
-  touch_meets,
-  meets_touch,
-  by_touch,
-  picked,
-  after_has,
-  has_after,
-  same_group,
-  from_picked,
-  into_picked,
-  picked_star,
-}
+use Rattle.plai_share_laws.proofs.Unify.{group_has, has_group, touch_meets, meets_touch, by_touch, picked, after_has, has_after, same_group, from_picked}
+use Rattle.plai_share_laws.proofs.Unify.{into_picked, picked_star}
 
 module _ (n number : ℕ) (i : Instance) (wf : IsInstance n number i) (c : Change) (j : Instance) (moved : IsMoved i c j)
     (s : List ℕ) (known : (v k : ℕ) → i.occurs v k ≡ true → IsIn (group i n v) s) (a : ℕ) (loc : IsLocal i a number c) where

@@ -1,46 +1,11 @@
 -- Sets of slots.
-use Rattle.std.proofs.Common.{
-  ◌≡◌,
-  ◌≢◌,
-  ◌⊎◌,
-  ℕ,
-  zero,
-  suc,
-  ◌^◌,
-  ◌<◌,
-  ◌≤◌,
-  Bool,
-  true,
-  false,
-  not,
-  nat_eq,
-  nat_lt,
-  bit_and,
-  bit_or,
-  bit_xor,
-  sym,
-  ◌∙◌,
-  ap,
-  subst,
-  inl,
-  inr,
-  arith,
-  pow-suc,
-}
+use Rattle.std.proofs.Common.{◌≡◌, ◌≢◌, ◌⊎◌, ℕ, zero, suc, ◌^◌, ◌<◌, ◌≤◌, Bool, true, false, not, nat_eq, nat_lt, bit_and, bit_or, bit_xor, sym, ◌∙◌, ap}
+use Rattle.std.proofs.Common.{subst, inl, inr, arith, pow-suc}
 use Rattle.std.specs.Int.{bit_at}
 use Rattle.std.proofs.lemmas.Bool.{eq-eqb, eqb-true}
 use Rattle.std.proofs.lemmas.Bool.Decides.{nat_tests}
-use Rattle.std.proofs.lemmas.Nat.Bits.{
-  bit_at_and,
-  bit_at_or,
-  bit_at_xor,
-  bit_at-zero,
-  bit_at-lt,
-  bit_at-pow_same,
-  bit_at-pow_other,
-  same_from_bits,
-  bit_at_above,
-}
+use Rattle.std.proofs.lemmas.Nat.Bits.{bit_at_and, bit_at_or, bit_at_xor, bit_at-zero, bit_at-lt, bit_at-pow_same, bit_at-pow_other, same_from_bits}
+use Rattle.std.proofs.lemmas.Nat.Bits.{bit_at_above}
 pub use Rattle.plai_base.proofs.Sets.{by_test}
 use Rattle.plai_base.specs.Mask.{has_slot, mask_of}
 use Rattle.plai_share_laws.specs.Groups.{Has, meets, misses, without, IsPart}

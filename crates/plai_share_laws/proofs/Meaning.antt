@@ -1,31 +1,8 @@
 -- What a set of groups says of terms.
 use Rattle.plai_share_laws.proofs.Ordered.{IsBelow}
 use Rattle.plai_base.specs.Mask.{mask_of}
-use Rattle.std.specs.Prelude.{
-  bit_and,
-  cond,
-  ◌&&◌,
-  nat_lt,
-  nat_eq,
-  ◌+◌,
-  ◌≡◌,
-  ◌⊎◌,
-  ℕ,
-  ◌<◌,
-  ◌≤◌,
-  Bool,
-  true,
-  List,
-  Option,
-  Some,
-  None,
-  false,
-  [],
-  ◌∷◌,
-  ◌-◌,
-  zero,
-  suc,
-}
+use Rattle.std.specs.Prelude.{bit_and, cond, ◌&&◌, nat_lt, nat_eq, ◌+◌, ◌≡◌, ◌⊎◌, ℕ, ◌<◌, ◌≤◌, Bool, true, List, Option, Some, None, false, [], ◌∷◌, ◌-◌}
+use Rattle.std.specs.Prelude.{zero, suc}
 use Rattle.plai_terms.specs.declared.prop.Prop.{Prop}
 use Rattle.plai_terms.specs.declared.prop.Prop.TheVariants as property
 use Rattle.plai_domain.specs.declared.action.Action.{Action}

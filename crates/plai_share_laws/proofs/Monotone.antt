@@ -4,45 +4,11 @@ use Rattle.plai_base.specs.Mask.{has_slot, mask_of}
 use Rattle.plai_share_laws.proofs.Members.{IsWithin}
 use Rattle.plai_base.specs.Sets.{has}
 use Rattle.plai_share_laws.specs.Groups.{IsPart, meets, without, rel, missing, star, near}
-use Rattle.plai_share_laws.specs.Shares.{
-  Shares,
-  Side,
-  Slot,
-  Other,
-  slots_of,
-  is_free,
-  united,
-  unify_groups,
-  lost,
-  unify,
-  unify_formed,
-  back_groups,
-  answered,
-  answered_formed,
-  havocked,
-  havocked_formed,
-  grounded,
-  same,
-  any_meets,
-  var_at,
-  nonvar_at,
-}
+use Rattle.plai_share_laws.specs.Shares.{Shares, Side, Slot, Other, slots_of, is_free, united, unify_groups, lost, unify, unify_formed, back_groups, answered}
+use Rattle.plai_share_laws.specs.Shares.{answered_formed, havocked, havocked_formed, grounded, same, any_meets, var_at, nonvar_at}
 use Rattle.plai_share_laws.proofs.Ordered.{Leq, AreCovered, UpTo}
-use Rattle.plai_share_laws.proofs.Masks.{
-  by_test,
-  not_both,
-  has_or,
-  or_left,
-  or_right,
-  meets_at,
-  meet_slot,
-  meets_or_left,
-  meets_or_right,
-  without_left,
-  without_right,
-  has_without,
-  has_zero,
-}
+use Rattle.plai_share_laws.proofs.Masks.{by_test, not_both, has_or, or_left, or_right, meets_at, meet_slot, meets_or_left, meets_or_right, without_left}
+use Rattle.plai_share_laws.proofs.Masks.{without_right, has_without, has_zero}
 use Rattle.plai_share_laws.proofs.Lists.{by_either, in_filter, filter_in, contains_in, in_contains}
 use Rattle.plai_share_laws.proofs.Local.{any_at}
 use Rattle.plai_share_laws.proofs.Sets.{star_within, bin_within, near_part, filter_within, append_within, normal_within, member_star, in_near, near_in}

@@ -15,25 +15,8 @@ use Rattle.plai_share_laws.proofs.Members.{IsIn, IsWithin}
 use Rattle.plai_share_laws.proofs.Ordered as plain
 use Rattle.plai_share_laws.proofs.Lists.{in_map, map_in, same_list}
 use Rattle.plai_share_laws.proofs.Canonical.{is_value}
-use Rattle.plai_share_laws.proofs.Texts.{
-  Lacks,
-  IsPiece,
-  ArePieces,
-  cut,
-  joined_same,
-  map_same,
-  slot_in,
-  in_slots,
-  slots_tell,
-  AreSlots,
-  joined_slots,
-  group_piece,
-  group_same,
-  groups_bytes,
-  free_bytes,
-  in_ordered,
-  ordered_in,
-}
+use Rattle.plai_share_laws.proofs.Texts.{Lacks, IsPiece, ArePieces, cut, joined_same, map_same, slot_in, in_slots, slots_tell, AreSlots, joined_slots}
+use Rattle.plai_share_laws.proofs.Texts.{group_piece, group_same, groups_bytes, free_bytes, in_ordered, ordered_in}
 
 layout : (a b : List ℕ) → codes "sh={" ++ a ++ codes "} fr={" ++ b ++ codes "}"
     ≡ 115 ∷ 104 ∷ 61 ∷ 123 ∷ (a ++ 125 ∷ (32 ∷ 102 ∷ 114 ∷ 61 ∷ 123 ∷ (b ++ 125 ∷ [])))

@@ -1,77 +1,21 @@
 -- refine and enter describe the instance after the substitution.
-use Rattle.std.proofs.Common.{
-  ◌≡◌,
-  ℕ,
-  zero,
-  suc,
-  ◌+◌,
-  ◌<◌,
-  Bool,
-  true,
-  false,
-  nat_lt,
-  List,
-  [],
-  ◌∷◌,
-  length,
-  Option,
-  Some,
-  None,
-  refl,
-  sym,
-  ◌∙◌,
-  ap,
-  subst,
-  inl,
-  inr,
-  arith,
-  ◌-◌,
-}
+use Rattle.std.proofs.Common.{◌≡◌, ℕ, zero, suc, ◌+◌, ◌<◌, Bool, true, false, nat_lt, List, [], ◌∷◌, length, Option, Some, None, refl, sym, ◌∙◌, ap, subst}
+use Rattle.std.proofs.Common.{inl, inr, arith, ◌-◌}
 use Rattle.std.proofs.lemmas.Bool.Decides.{nat_tests}
 use Rattle.plai_base.specs.Mask.{has_slot, mask_of}
 use Rattle.plai_domain.specs.declared.action.Action.{Action}
 use Rattle.plai_domain.specs.declared.action.Action.TheVariants as action
-use Rattle.plai_share_laws.specs.Shares.{
-  Shares,
-  Side,
-  Slot,
-  Other,
-  slots_of,
-  unify,
-  widen,
-  widen_by,
-  first_slots,
-  havocked,
-  grounded,
-  same,
-  var_at,
-  nonvar_at,
-  any_meets,
-  freed,
-}
+use Rattle.plai_share_laws.specs.Shares.{Shares, Side, Slot, Other, slots_of, unify, widen, widen_by, first_slots, havocked, grounded, same, var_at}
+use Rattle.plai_share_laws.specs.Shares.{nonvar_at, any_meets, freed}
 use Rattle.plai_share_laws.proofs.Ordered.{IsBelow}
-use Rattle.plai_share_laws.proofs.Meaning.{
-  Instance,
-  IsInstance,
-  Describes,
-  Change,
-  IsMoved,
-  IsLocal,
-  variable_at,
-  arguments,
-  extended,
-  AreBelow,
-  side_variable,
-  IsEmpty,
-  Allows,
-  IsUnified,
-  new_terms,
-}
+use Rattle.plai_share_laws.proofs.Meaning.{Instance, IsInstance, Describes, Change, IsMoved, IsLocal, variable_at, arguments, extended, AreBelow}
+use Rattle.plai_share_laws.proofs.Meaning.{side_variable, IsEmpty, Allows, IsUnified, new_terms}
 use Rattle.plai_share_laws.specs.Calls.{unify_each, enter, extend, raise, side_at, refine, first_of_some}
 use Rattle.plai_share_laws.proofs.Masks.{by_test, has_of, of_has, has_zero}
 use Rattle.plai_share_laws.proofs.Unify.{unify_describes}
 use Rattle.plai_share_laws.proofs.Local.{havocked_describes, grounded_describes, same_describes, var_describes, nonvar_describes}
-use Rattle.plai_share_laws.proofs.Extend.{IsLike, like_describes, extend_describes, extend_slots, news_describe}
+use Rattle.plai_share_laws.proofs.Extend.{extend_describes, extend_slots}
+use Rattle.plai_share_laws.proofs.NewSlots.{IsLike, like_describes, news_describe}
 use Rattle.plai_share_laws.proofs.Back.{extended_wf, extended_moved, raise_shift, of_shift, local_up, unifier_up, occurs_down, touch_down, first_again}
 
 var_slots : (t : Side) (v w : Shares) → var_at t v ≡ Some w → w.slots ≡ v.slots

@@ -1,30 +1,6 @@
 -- The literal's arguments under an instance are the tuple of their terms.
-use Rattle.std.proofs.Common.{
-  ◌≡◌,
-  ℕ,
-  zero,
-  suc,
-  ◌+◌,
-  ◌<◌,
-  Bool,
-  true,
-  false,
-  ◌&&◌,
-  nat_lt,
-  List,
-  [],
-  ◌∷◌,
-  map,
-  length,
-  Some,
-  refl,
-  sym,
-  subst,
-  ◌∙◌,
-  inl,
-  inr,
-  arith,
-}
+use Rattle.std.proofs.Common.{◌≡◌, ℕ, zero, suc, ◌+◌, ◌<◌, Bool, true, false, ◌&&◌, nat_lt, List, [], ◌∷◌, map, length, Some, refl, sym, subst, ◌∙◌, inl, inr}
+use Rattle.std.proofs.Common.{arith}
 use Rattle.std.proofs.lemmas.Bool.Decides.{nat_tests}
 use Rattle.plai_terms.specs.Term.{occurs}
 use Rattle.plai_terms.specs.declared.term.Term.{Term}
@@ -37,7 +13,8 @@ use Rattle.plai_share_laws.proofs.Masks.{by_test}
 use Rattle.plai_share_laws.proofs.Lists.{in_map}
 use Rattle.plai_share_laws.proofs.Parts.{and_parts, and_both}
 use Rattle.plai_share_laws.proofs.Unify.{touch_meets, meets_touch}
-use Rattle.plai_share_laws.proofs.Extend.{IsLike, like_describes, call_describes}
+use Rattle.plai_share_laws.proofs.Extend.{call_describes}
+use Rattle.plai_share_laws.proofs.NewSlots.{IsLike, like_describes}
 use Rattle.plai_terms.specs.Substitution.{under}
 use Rattle.plai_share_laws.specs.Sides.{variable_of, side_of}
 use Rattle.plai_share_laws.proofs.Placed.{placed, term_at, tuple_of}

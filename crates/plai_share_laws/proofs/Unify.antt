@@ -4,22 +4,8 @@ use Rattle.plai_share_laws.proofs.Members.{IsIn}
 use Rattle.plai_share_laws.specs.Groups.{Has, meets, misses, without, rel, missing, star, bin, near}
 use Rattle.plai_share_laws.specs.Shares.{Shares, Side, Slot, Other, slots_of, is_free, united, unify_groups, lost, unify}
 use Rattle.plai_share_laws.proofs.Meaning.{Instance, IsInstance, group, Describes, Change, IsMoved, Touches, Renames, Unifies, IsOne, variable_at, IsUnifier}
-use Rattle.plai_share_laws.proofs.Masks.{
-  by_test,
-  not_both,
-  same_mask,
-  has_or,
-  or_left,
-  or_right,
-  of_has,
-  meets_at,
-  meet_slot,
-  misses_at,
-  from_has,
-  has_from,
-  without_left,
-  without_right,
-}
+use Rattle.plai_share_laws.proofs.Masks.{by_test, not_both, same_mask, has_or, or_left, or_right, of_has, meets_at, meet_slot, misses_at, from_has, has_from}
+use Rattle.plai_share_laws.proofs.Masks.{without_left, without_right}
 use Rattle.plai_share_laws.proofs.Lists.{by_either, append_left, append_right, filter_in, normal_in}
 use Rattle.plai_share_laws.proofs.Sets.{part_or, bin_in, near_in}
 use Rattle.plai_share_laws.proofs.Gather.{gather, in_gather, gather_in, gathered}

@@ -1,58 +1,14 @@
 -- The operations give values: ascending lists of sets of slots.
-use Rattle.std.proofs.Common.{
-  ◌≡◌,
-  ℕ,
-  suc,
-  ◌+◌,
-  ◌/◌,
-  ◌%◌,
-  ◌^◌,
-  ◌<◌,
-  Bool,
-  true,
-  false,
-  not,
-  ◌||◌,
-  nat_eq,
-  bit_and,
-  bit_or,
-  List,
-  [],
-  ◌∷◌,
-  ◌++◌,
-  map,
-  filter,
-  refl,
-  sym,
-  ap,
-  subst,
-  inl,
-  inr,
-  arith,
-}
+use Rattle.std.proofs.Common.{◌≡◌, ℕ, suc, ◌+◌, ◌/◌, ◌%◌, ◌^◌, ◌<◌, Bool, true, false, not, ◌||◌, nat_eq, bit_and, bit_or, List, [], ◌∷◌, ◌++◌, map, filter}
+use Rattle.std.proofs.Common.{refl, sym, ap, subst, inl, inr, arith}
 use Rattle.std.proofs.Math.Nat.{mod-eq_of_lt}
 use Rattle.plai_base.specs.Mask.{mask_of, all_true}
 use Rattle.plai_base.proofs.Bits.{top_lt}
 use Rattle.plai_share_laws.proofs.Members.{IsIn, IsAscending}
 use Rattle.plai_base.specs.Sets.{has}
 use Rattle.plai_share_laws.specs.Groups.{Has, meets, without, normal, rel, missing, star, bin}
-use Rattle.plai_share_laws.specs.Shares.{
-  Shares,
-  Side,
-  slots_of,
-  is_free,
-  united,
-  unify,
-  widen,
-  parts,
-  first_slots,
-  last_slots,
-  answered,
-  havocked,
-  grounded,
-  same,
-  freed,
-}
+use Rattle.plai_share_laws.specs.Shares.{Shares, Side, slots_of, is_free, united, unify, widen, parts, first_slots, last_slots, answered, havocked, grounded}
+use Rattle.plai_share_laws.specs.Shares.{same, freed}
 use Rattle.plai_share_laws.proofs.Ordered.{IsBelow, IsValue}
 use Rattle.plai_share_laws.proofs.Masks.{by_test, not_both, same_mask, has_or, or_left, of_has, has_of, empty_mask, meet_slot, meets_at, without_left}
 use Rattle.plai_share_laws.proofs.Lists.{by_either, in_append, in_filter, in_normal, normal_ascending}

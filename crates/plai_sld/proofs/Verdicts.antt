@@ -26,17 +26,8 @@ use Rattle.plai_sld.specs.Runs.{RunState}
 use Rattle.plai_sld.specs.States.{AreItems}
 use Rattle.plai_sld.specs.Described.{IsDescribedGoal, IsFrontDescribed, AreRunsDescribed}
 use Rattle.plai_sld.specs.Verdicts.{IsReached, IsCalled, IsAnswered, Promises, IsKeptByRuns}
-use Rattle.plai_sld.proofs.Readings.{
-  Excludes,
-  AreCallsChecked,
-  AreCallsFalse,
-  AreAnswersChecked,
-  AreAnswersFalse,
-  calls_hold,
-  calls_fail,
-  answers_hold,
-  answers_fail,
-}
+use Rattle.plai_sld.proofs.Readings.{Excludes, AreCallsChecked, AreCallsFalse, AreAnswersChecked, AreAnswersFalse, calls_hold, calls_fail, answers_hold}
+use Rattle.plai_sld.proofs.Readings.{answers_fail}
 use Rattle.plai_sld.proofs.Kept.{run_state, start_is_state}
 
 of_recursion : {A : Type 0} (P : A → Type 0) (xs : List A) → AllByRecursion P xs → (x : A) → IsIn x xs → P x

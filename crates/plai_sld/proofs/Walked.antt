@@ -1,30 +1,6 @@
 -- Walks that find numbers above the variables of terms.
-use Rattle.std.proofs.Common.{
-  ◌≡◌,
-  ◌≢◌,
-  ℕ,
-  suc,
-  ◌+◌,
-  ◌<◌,
-  max,
-  ℤ,
-  List,
-  [],
-  ◌∷◌,
-  ◌++◌,
-  map,
-  flat_map,
-  take,
-  length,
-  get_or,
-  Bor,
-  refl,
-  sym,
-  ap,
-  ◌∙◌,
-  rules,
-  arith,
-}
+use Rattle.std.proofs.Common.{◌≡◌, ◌≢◌, ℕ, suc, ◌+◌, ◌<◌, max, ℤ, List, [], ◌∷◌, ◌++◌, map, flat_map, take, length, get_or, Bor, refl, sym, ap, ◌∙◌, rules}
+use Rattle.std.proofs.Common.{arith}
 use Rattle.std.specs.List.{AllByRecursion}
 use Rattle.std.proofs.lemmas.List.{take_more, map-append}
 use Rattle.plai_terms.specs.Preorder.{arguments_of, preorder, referred}

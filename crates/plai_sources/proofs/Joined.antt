@@ -1,34 +1,6 @@
 -- What each of the goals that a term joins gives, put behind others.
-use Rattle.std.proofs.Common.{
-  ◌≡◌,
-  ◌∙◌,
-  ℕ,
-  ◌+◌,
-  ◌<◌,
-  ◌≤◌,
-  suc,
-  Option,
-  Some,
-  None,
-  Result,
-  Err,
-  List,
-  [],
-  ◌∷◌,
-  ◌++◌,
-  length,
-  take,
-  drop,
-  get_or,
-  append-nil,
-  append_assoc,
-  take-append-drop,
-  drop-cons,
-  refl,
-  sym,
-  ap,
-  subst,
-}
+use Rattle.std.proofs.Common.{◌≡◌, ◌∙◌, ℕ, ◌+◌, ◌<◌, ◌≤◌, suc, Option, Some, None, Result, Err, List, [], ◌∷◌, ◌++◌, length, take, drop, get_or, append-nil}
+use Rattle.std.proofs.Common.{append_assoc, take-append-drop, drop-cons, refl, sym, ap, subst}
 use Rattle.std.proofs.lemmas.List.{take_more, take_all}
 use Rattle.std.proofs.lemmas.Grind.{flat_map-append}
 use Rattle.std.specs.Prelude.{flat_map}

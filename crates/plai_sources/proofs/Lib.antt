@@ -4,5 +4,6 @@ pub mod Goals
 pub mod Joined
 pub mod OperatorLists
 pub mod Splits
+pub mod FormedProperties
 pub mod Formed
 pub mod Terms

@@ -1,31 +1,6 @@
 -- Operators added one by one.
-use Rattle.std.proofs.Common.{
-  ◌≡◌,
-  ◌∙◌,
-  ℕ,
-  ◌+◌,
-  ◌<◌,
-  suc,
-  Option,
-  Some,
-  None,
-  Result,
-  Err,
-  List,
-  [],
-  ◌∷◌,
-  ◌++◌,
-  length,
-  take,
-  drop,
-  get_or,
-  take-append-drop,
-  drop-cons,
-  refl,
-  sym,
-  ap,
-  subst,
-}
+use Rattle.std.proofs.Common.{◌≡◌, ◌∙◌, ℕ, ◌+◌, ◌<◌, suc, Option, Some, None, Result, Err, List, [], ◌∷◌, ◌++◌, length, take, drop, get_or, take-append-drop}
+use Rattle.std.proofs.Common.{drop-cons, refl, sym, ap, subst}
 use Rattle.std.proofs.lemmas.List.{take_more}
 use Rattle.std.specs.Prelude.{option_and_then}
 use Rattle.plai_reader.specs.declared.operator.OpKind.{OpKind}

@@ -5,19 +5,8 @@ use Rattle.plai_lex.specs.Tokens.{Tokens, with_tokens}
 use Rattle.plai_reader.specs.Roles.{is_end}
 use Rattle.plai_sources.specs.declared.cause.LoadCause.{LoadCause}
 use Rattle.plai_sources.specs.declared.reading.Reading.{Reading}
-use Rattle.plai_sources.specs.Items.{
-  refusal,
-  Split,
-  with_first,
-  split,
-  last_cause,
-  with_tokens as with_term,
-  ended_by,
-  numbered,
-  and_then,
-  items_from,
-  items_of_tokens,
-}
+use Rattle.plai_sources.specs.Items.{refusal, Split, with_first, split, last_cause, with_tokens as with_term, ended_by, numbered, and_then, items_from}
+use Rattle.plai_sources.specs.Items.{items_of_tokens}
 use Rattle.plai_sources.specs.Answering.{AreInside, IsWhole}
 
 pub AreInside-push : (xs : List Token) (x : Token) → AreInside xs → is_end x.kind ≡ false → AreInside (xs ++ x ∷ [])

@@ -1,33 +1,6 @@
 -- One term of a file, and the tokens of terms as they are taken.
-use Rattle.std.proofs.Common.{
-  ◌≡◌,
-  ◌∙◌,
-  ℕ,
-  ◌+◌,
-  ◌≤◌,
-  true,
-  Option,
-  Some,
-  None,
-  Result,
-  Ok,
-  Err,
-  Vec,
-  Global,
-  List,
-  [],
-  ◌∷◌,
-  ◌++◌,
-  length,
-  append_assoc,
-  append-nil,
-  length-append,
-  refl,
-  sym,
-  ap,
-  subst,
-  arith,
-}
+use Rattle.std.proofs.Common.{◌≡◌, ◌∙◌, ℕ, ◌+◌, ◌≤◌, true, Option, Some, None, Result, Ok, Err, Vec, Global, List, [], ◌∷◌, ◌++◌, length, append_assoc}
+use Rattle.std.proofs.Common.{append-nil, length-append, refl, sym, ap, subst, arith}
 use Rattle.std.specs.Prelude.{All, IfOk, IfSome}
 use Rattle.plai_lex.specs.declared.token.Token.{Token}
 use Rattle.plai_lex.specs.Tokens.{Tokens, with_token, with_tokens, ended, IsWritten}
@@ -45,22 +18,8 @@ use Rattle.plai_sources.specs.declared.items.Item.{Item}
 use Rattle.plai_sources.specs.declared.items.FileItems.{FileItems}
 use Rattle.plai_sources.specs.declared.reading.Reading.{Reading}
 use Rattle.plai_sources.specs.Directives.{said_by}
-use Rattle.plai_sources.specs.Items.{
-  Refusal,
-  refusal,
-  split,
-  last_cause,
-  with_item_if,
-  with_said,
-  with_term_under,
-  with_term,
-  with_tokens as with_tokens_of,
-  finished,
-  finished_under,
-  numbered,
-  and_then,
-  items_of_tokens,
-}
+use Rattle.plai_sources.specs.Items.{Refusal, refusal, split, last_cause, with_item_if, with_said, with_term_under, with_term, with_tokens as with_tokens_of}
+use Rattle.plai_sources.specs.Items.{finished, finished_under, numbered, and_then, items_of_tokens}
 use Rattle.plai_sources.specs.WellFormed.{IsGood, counted_items, AreWellFormedItems, AreWellFormedUnder}
 use Rattle.plai_sources.specs.Answering.{Answers, AnswersFile, AreInside, IsWhole, TakesToken, Ends, Takes, Numbers}
 use Rattle.plai_sources.proofs.Formed.{term-good}

@@ -1,39 +1,6 @@
 -- Rows of a table under its calls.
-use Rattle.std.proofs.Common.{
-  ◌≡◌,
-  ℕ,
-  zero,
-  suc,
-  ◌+◌,
-  ◌<◌,
-  ◌≤◌,
-  Bool,
-  true,
-  false,
-  cond,
-  not,
-  ◌&&◌,
-  List,
-  [],
-  ◌∷◌,
-  ◌++◌,
-  length,
-  slice_get,
-  zero-add,
-  Option,
-  Some,
-  None,
-  position,
-  is_some,
-  get_or,
-  IfSome,
-  refl,
-  sym,
-  ap,
-  ◌∙◌,
-  subst,
-  arith,
-}
+use Rattle.std.proofs.Common.{◌≡◌, ℕ, zero, suc, ◌+◌, ◌<◌, ◌≤◌, Bool, true, false, cond, not, ◌&&◌, List, [], ◌∷◌, ◌++◌, length, slice_get, zero-add, Option}
+use Rattle.std.proofs.Common.{Some, None, position, is_some, get_or, IfSome, refl, sym, ap, ◌∙◌, subst, arith}
 use Rattle.std.specs.Map.{keys_of}
 use Rattle.std.specs.List.{swap_remove, IsDistinct}
 use Rattle.std.proofs.lemmas.Option.{get_or_from_slice_get, slice_get_within}

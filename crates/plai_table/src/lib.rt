@@ -9,6 +9,3 @@ mod table;
 pub use add_fail::AddFail;
 pub use row::Row;
 pub use table::Table;
-
-#[cfg(test)]
-mod tests;

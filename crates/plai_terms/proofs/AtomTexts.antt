@@ -1,51 +1,13 @@
 -- Different atoms have different texts, and so have different names of rows, whatever follows them.
-use Rattle.std.proofs.Common.{
-  ◌≡◌,
-  ℕ,
-  Bool,
-  true,
-  false,
-  ◌&&◌,
-  ◌||◌,
-  not,
-  cond,
-  eqb,
-  nat_eq,
-  List,
-  [],
-  ◌∷◌,
-  ◌++◌,
-  length,
-  refl,
-  sym,
-  ap,
-  ◌∙◌,
-  arith,
-  append_assoc,
-  codes,
-  subst,
-  inl,
-  inr,
-  ◌⊎◌,
-}
+use Rattle.std.proofs.Common.{◌≡◌, ℕ, Bool, true, false, ◌&&◌, ◌||◌, not, cond, eqb, nat_eq, List, [], ◌∷◌, ◌++◌, length, refl, sym, ap, ◌∙◌, arith}
+use Rattle.std.proofs.Common.{append_assoc, codes, subst, inl, inr, ◌⊎◌}
 use Rattle.std.specs.List.{list_any, list_all, flat_map}
 use Rattle.std.specs.Int.{is_in_range}
 use Rattle.std.specs.Char.{is_ascii_lowercase}
 use Rattle.std.specs.Cmp.Lexicographic.{pointwise}
 use Rattle.std.proofs.lemmas.Bool.{false≢true}
-use Rattle.plai_terms.specs.Atom.{
-  is_alphanumeric,
-  is_symbol,
-  is_word,
-  is_symbolic,
-  is_end_or_comment,
-  is_solo,
-  is_bare,
-  escaped,
-  quoted_text,
-  atom_text,
-  name_text,
-}
+use Rattle.plai_terms.specs.Atom.{is_alphanumeric, is_symbol, is_word, is_symbolic, is_end_or_comment, is_solo, is_bare, escaped, quoted_text, atom_text}
+use Rattle.plai_terms.specs.Atom.{name_text}
 use Rattle.plai_terms.proofs.Same.{both, names_equal}
 use Rattle.plai_terms.proofs.Reading.{stops, is_free, first_of, same_fronts, no_member, quoted_apart}
 

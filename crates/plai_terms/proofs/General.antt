@@ -11,35 +11,11 @@ use Rattle.plai_terms.specs.declared.moves.Move.{Move}
 use Rattle.plai_terms.specs.declared.moves.Move.TheVariants.{Skip, Bind, Split, Differ, Contain}
 use Rattle.plai_terms.specs.declared.outcome.Outcome.{Outcome}
 use Rattle.plai_terms.specs.declared.outcome.Outcome.TheVariants.{Unified}
-use Rattle.plai_terms.proofs.Under.{
-  under-Var,
-  occurs-Var,
-  occurs-Var_same,
-  occurs-args,
-  or_cases,
-  or_first,
-  or_second,
-  decided,
-  under_same,
-  under_under,
-  under_Var,
-  source,
-  under-composed,
-}
+use Rattle.plai_terms.proofs.Under.{under-Var, occurs-Var, occurs-Var_same, occurs-args, or_cases, or_first, or_second, decided, under_same, under_under}
+use Rattle.plai_terms.proofs.Under.{under_Var, source, under-composed}
 use Rattle.plai_terms.proofs.MoveLaws.{IsMove, IsSplit, move_is}
-use Rattle.plai_terms.proofs.Solved.{
-  single,
-  single_cases,
-  single-same,
-  single-absent,
-  absorbed,
-  absorbed_under,
-  put_left,
-  unifies_append,
-  append_unifies,
-  split_unified,
-  unified_split,
-}
+use Rattle.plai_terms.proofs.Solved.{single, single_cases, single-same, single-absent, absorbed, absorbed_under, put_left, unifies_append, append_unifies}
+use Rattle.plai_terms.proofs.Solved.{split_unified, unified_split}
 
 -- d is what the equations add to the bindings bs, which makes s of them
 pub record Extends (es : Equations) (bs s : Bindings) (d : ℕ → Term) : Type 0 where

@@ -25,9 +25,11 @@ pub mod Sorted
 pub mod Splits
 pub mod Substs
 pub mod Tables
+pub mod TermKinds
 pub mod TermTexts
 pub mod Terms
 pub mod Total
+pub mod VariableLists
 pub mod Under
 pub mod Preorder
 pub mod Within

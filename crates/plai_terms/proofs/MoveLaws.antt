@@ -1,34 +1,6 @@
 -- What the move for an equation says of its sides.
-use Rattle.std.proofs.Common.{
-  ◌≡◌,
-  ◌⊎◌,
-  inl,
-  inr,
-  ℕ,
-  ◌+◌,
-  ◌<◌,
-  ◌≤◌,
-  Bool,
-  true,
-  false,
-  ◌&&◌,
-  ◌==◌,
-  cond,
-  List,
-  [],
-  ◌∷◌,
-  map,
-  sum,
-  length,
-  refl,
-  sym,
-  ap,
-  subst,
-  ◌∙◌,
-  rules,
-  arith,
-  nat_eq,
-}
+use Rattle.std.proofs.Common.{◌≡◌, ◌⊎◌, inl, inr, ℕ, ◌+◌, ◌<◌, ◌≤◌, Bool, true, false, ◌&&◌, ◌==◌, cond, List, [], ◌∷◌, map, sum, length, refl, sym, ap}
+use Rattle.std.proofs.Common.{subst, ◌∙◌, rules, arith, nat_eq}
 use Rattle.std.specs.List.{AllByRecursion}
 use Rattle.std.specs.Cmp.Lexicographic.{pointwise}
 use Rattle.std.specs.Ordering.{int_eq}

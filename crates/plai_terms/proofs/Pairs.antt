@@ -1,26 +1,6 @@
 -- One more equation at the end.
-use Rattle.std.proofs.Common.{
-  ◌≡◌,
-  ℕ,
-  zero,
-  suc,
-  ◌<◌,
-  List,
-  [],
-  ◌∷◌,
-  ◌++◌,
-  take,
-  length,
-  reverse,
-  get_or,
-  refl,
-  sym,
-  ap,
-  ◌∙◌,
-  append_assoc,
-  length-append,
-  arith,
-}
+use Rattle.std.proofs.Common.{◌≡◌, ℕ, zero, suc, ◌<◌, List, [], ◌∷◌, ◌++◌, take, length, reverse, get_or, refl, sym, ap, ◌∙◌, append_assoc, length-append}
+use Rattle.std.proofs.Common.{arith}
 use Rattle.std.proofs.lemmas.List.{reverse-append}
 use Rattle.plai_terms.specs.declared.term.Term.{Term}
 use Rattle.plai_terms.specs.Unification.{Equations, equations}

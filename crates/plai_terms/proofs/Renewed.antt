@@ -1,34 +1,6 @@
 -- A term made anew from what its arguments gave, and what waits behind them.
-use Rattle.std.proofs.Common.{
-  ◌≡◌,
-  ◌≢◌,
-  ◌≤◌,
-  ◌<◌,
-  ℕ,
-  ℤ,
-  List,
-  [],
-  ◌∷◌,
-  ◌++◌,
-  length,
-  map,
-  take,
-  drop,
-  reverse,
-  refl,
-  sym,
-  ap,
-  ◌∙◌,
-  arith,
-  rules,
-  length-append,
-  subst,
-  Bor,
-  Result,
-  Ok,
-  Err,
-  IfOk,
-}
+use Rattle.std.proofs.Common.{◌≡◌, ◌≢◌, ◌≤◌, ◌<◌, ℕ, ℤ, List, [], ◌∷◌, ◌++◌, length, map, take, drop, reverse, refl, sym, ap, ◌∙◌, arith, rules}
+use Rattle.std.proofs.Common.{length-append, subst, Bor, Result, Ok, Err, IfOk}
 use Rattle.std.proofs.lemmas.List.{length-reverse, length-map, reverse-append, reverse-reverse}
 use Rattle.plai_terms.specs.Preorder.{arguments_of, with_arguments, preorder, referred}
 use Rattle.plai_terms.specs.declared.term.Term.{Term, Var, Int, Atom, Compound, the_lemmas}

@@ -8,19 +8,8 @@ use Rattle.plai_terms.specs.declared.term.Term.TheOpen.{Term-F}
 use Rattle.plai_terms.specs.Substitution.{under, then_also}
 use Rattle.plai_terms.specs.Unification.{Equations, equations, put}
 use Rattle.plai_terms.proofs.Solutions.{Unifies, occurs_there}
-use Rattle.plai_terms.proofs.Under.{
-  under-Var,
-  under-Compound,
-  occurs-Var_same,
-  or_cases,
-  or_first,
-  or_second,
-  decided,
-  under_same,
-  under_under,
-  under_Var,
-  source,
-}
+use Rattle.plai_terms.proofs.Under.{under-Var, under-Compound, occurs-Var_same, or_cases, or_first, or_second, decided, under_same, under_under, under_Var}
+use Rattle.plai_terms.proofs.Under.{source}
 use Rattle.plai_terms.proofs.MoveLaws.{IsSplit}
 
 -- one binding

@@ -1,34 +1,6 @@
 -- Each variable is below the limit where no subterm is a variable from the limit on.
-use Rattle.std.proofs.Common.{
-  ◌≡◌,
-  ◌≢◌,
-  ℕ,
-  ℤ,
-  ◌<◌,
-  ◌≤◌,
-  Bool,
-  true,
-  false,
-  ◌&&◌,
-  nat_lt,
-  List,
-  [],
-  ◌∷◌,
-  ◌++◌,
-  map,
-  flat_map,
-  drop,
-  length,
-  refl,
-  sym,
-  ap,
-  inl,
-  inr,
-  ◌∙◌,
-  rules,
-  arith,
-  Bor,
-}
+use Rattle.std.proofs.Common.{◌≡◌, ◌≢◌, ℕ, ℤ, ◌<◌, ◌≤◌, Bool, true, false, ◌&&◌, nat_lt, List, [], ◌∷◌, ◌++◌, map, flat_map, drop, length, refl, sym, ap, inl}
+use Rattle.std.proofs.Common.{inr, ◌∙◌, rules, arith, Bor}
 use Rattle.std.proofs.lemmas.Bool.{ltb-true}
 use Rattle.std.proofs.lemmas.List.{drop_all}
 use Rattle.std.specs.List.{list_all, AllByRecursion}

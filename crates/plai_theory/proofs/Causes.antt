@@ -4,31 +4,12 @@ use Rattle.plai_theory.specs.Words.{IsIn, given, item}
 use Rattle.plai_theory.specs.Domain.{Domain, Program, IsLawful}
 use Rattle.plai_theory.specs.Evaluation.{NameOf}
 use Rattle.plai_theory.specs.LeastTable.{Row}
-use Rattle.plai_theory.specs.LegalWork.{
-  WorkRow,
-  Work,
-  Made,
-  Woke,
-  Evaluated,
-  Grew,
-  find,
-  new_row,
-  mentions,
-  after_waking,
-  after_evaluating,
-  after_growing,
-  calls_now,
-  after,
-  IsLegal,
-  IsLegalLog,
-  after_all,
-  work_with,
-  LogEntry,
-}
+use Rattle.plai_theory.specs.LegalWork.{WorkRow, Work, Made, Woke, Evaluated, Grew, find, new_row, mentions, after_waking, after_evaluating, after_growing}
+use Rattle.plai_theory.specs.LegalWork.{calls_now, after, IsLegal, IsLegalLog, after_all, work_with, LogEntry}
 use Rattle.plai_theory.specs.Edits.{IsKept, IsOpening, grown_names, grown_back, IsCaused}
 use Rattle.plai_theory.proofs.Options.{by_test}
 use Rattle.plai_theory.proofs.Rows.{find_map, find_push, by_map}
-use Rattle.plai_theory.proofs.Logs.{by_push}
+use Rattle.plai_theory.proofs.Invariant.{by_push}
 
 -- a kept row stays, and its dirty clauses have a cause
 pub record IsTraced (d : Domain) (old : Program d) (new : Program d) (table : List (Row d)) (grew : List (NameOf d)) (rows : List (WorkRow d)) : Type 0 where

@@ -1,29 +1,6 @@
 -- Kept rows lie below the new stages, so work may open with them.
-use Rattle.std.proofs.Common.{
-  ◌≡◌,
-  ℕ,
-  zero,
-  suc,
-  ◌≤◌,
-  true,
-  false,
-  List,
-  [],
-  ◌∷◌,
-  ◌++◌,
-  append-nil,
-  Option,
-  Some,
-  None,
-  sym,
-  refl,
-  ap,
-  ◌∙◌,
-  subst,
-  inl,
-  inr,
-  arith,
-}
+use Rattle.std.proofs.Common.{◌≡◌, ℕ, zero, suc, ◌≤◌, true, false, List, [], ◌∷◌, ◌++◌, append-nil, Option, Some, None, sym, refl, ap, ◌∙◌, subst, inl, inr}
+use Rattle.std.proofs.Common.{arith}
 use Rattle.plai_theory.specs.Words.{IsIn, given, UpTo, item}
 use Rattle.plai_theory.specs.Domain.{Domain, Program, IsLawful}
 use Rattle.plai_theory.specs.Evaluation.{Source, NameOf, name_of, answer_of, calls_of}
@@ -38,9 +15,10 @@ use Rattle.plai_theory.proofs.Tables.{closed_at, closed_is_least, lookup_row}
 use Rattle.plai_theory.proofs.Same.{least_closed, stage_at, table_value}
 use Rattle.plai_theory.proofs.Near.{IsNear, near_call}
 use Rattle.plai_theory.proofs.Rows.{item_in}
-use Rattle.plai_theory.proofs.Logs.{Inv, log_keeps, outcome_least}
+use Rattle.plai_theory.proofs.Logs.{log_keeps, outcome_least}
+use Rattle.plai_theory.proofs.Invariant.{Inv}
 use Rattle.plai_theory.proofs.Rounds.{below_at}
-use Rattle.plai_theory.proofs.Count.{dormant_count}
+use Rattle.plai_theory.proofs.LiveNames.{dormant_count}
 
 pub in_append : {A : Type 0} (xs ys : List A) (x : A) → IsIn x xs → IsIn x (xs ++ ys)
 in_append [] ys x i = absurd i

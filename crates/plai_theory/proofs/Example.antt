@@ -8,7 +8,7 @@ use Rattle.plai_theory.specs.Stages.{stage, Reaches, AtEntry, ByCall}
 use Rattle.plai_theory.specs.LeastTable.{Row, IsLeastTable}
 use Rattle.plai_theory.specs.Tables.{source_of, HasName, IsClosed}
 use Rattle.plai_theory.specs.LegalWork.{WorkRow, Made, Evaluated, Grew, present_source, next_answer, no_work, IsLegalLog, after_all, LogEntry}
-use Rattle.plai_theory.proofs.Logs.{IsExcepted}
+use Rattle.plai_theory.proofs.Invariant.{IsExcepted}
 use Rattle.plai_theory.proofs.Tables.{closed_is_least}
 use Rattle.plai_theory.proofs.Rounds.{below_at}
 

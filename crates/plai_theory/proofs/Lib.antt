@@ -6,10 +6,14 @@ pub mod Tables
 pub mod Same
 pub mod Near
 pub mod Rows
+pub mod Invariant
+pub mod Growth
 pub mod Logs
 pub mod Rounds
 pub mod Edits
 pub mod Over
+pub mod LiveNames
+pub mod WithinLimit
 pub mod Count
 pub mod Causes
 pub mod Example

@@ -1,60 +1,14 @@
 -- Evaluations that are over: monotony, and what tables and logs say of it.
-use Rattle.std.proofs.Common.{
-  ◌≡◌,
-  ◌⊎◌,
-  ℕ,
-  zero,
-  ◌+◌,
-  ◌≤◌,
-  true,
-  false,
-  List,
-  [],
-  ◌∷◌,
-  ◌++◌,
-  map,
-  nat_eq,
-  eqb-true,
-  Option,
-  Some,
-  None,
-  sym,
-  refl,
-  ◌∙◌,
-  subst,
-  inl,
-  inr,
-  arith,
-}
+use Rattle.std.proofs.Common.{◌≡◌, ◌⊎◌, ℕ, zero, ◌+◌, ◌≤◌, true, false, List, [], ◌∷◌, ◌++◌, map, nat_eq, eqb-true, Option, Some, None, sym, refl, ◌∙◌, subst}
+use Rattle.std.proofs.Common.{inl, inr, arith}
 use Rattle.plai_theory.specs.Words.{IsIn, UpTo, item, HasSome}
 use Rattle.plai_theory.specs.Domain.{Step, Goal, Do, Domain, Program, IsLawful}
 use Rattle.plai_theory.specs.Evaluation.{Source, NameOf, name_of, calls_along, calls_of}
 use Rattle.plai_theory.specs.Stages.{stage, Reaches, AtEntry, IsFromBelow, IsSettled}
 use Rattle.plai_theory.specs.LeastTable.{Row, Order, IsSnapshot, IsStrictOrder}
 use Rattle.plai_theory.specs.Tables.{source_of, HasName}
-use Rattle.plai_theory.specs.LegalWork.{
-  WorkRow,
-  Work,
-  Made,
-  Woke,
-  Evaluated,
-  Grew,
-  find,
-  present_source,
-  new_row,
-  mentions,
-  after_waking,
-  after_evaluating,
-  after_growing,
-  calls_now,
-  next_answer,
-  after,
-  IsLegal,
-  IsLegalLog,
-  after_all,
-  IsEnd,
-  LogEntry,
-}
+use Rattle.plai_theory.specs.LegalWork.{WorkRow, Work, Made, Woke, Evaluated, Grew, find, present_source, new_row, mentions, after_waking, after_evaluating}
+use Rattle.plai_theory.specs.LegalWork.{after_growing, calls_now, next_answer, after, IsLegal, IsLegalLog, after_all, IsEnd, LogEntry}
 use Rattle.plai_theory.specs.Edits.{IsOpening}
 use Rattle.plai_theory.specs.Limits.{Limits, AreUpwardClosed, IsOverAlong, IsOverAt, IsOver, Fits, AllFit, CleanFit}
 use Rattle.plai_theory.proofs.Options.{in_given, by_test}
@@ -66,7 +20,9 @@ use Rattle.plai_theory.proofs.Same.{table_value}
 use Rattle.plai_theory.proofs.Rounds.{below_at}
 use Rattle.plai_theory.proofs.Edits.{old_item, opened_agree}
 use Rattle.plai_theory.proofs.Rows.{item_in, in_item, by_map, find_name}
-use Rattle.plai_theory.proofs.Logs.{Inv, step, by_push, present_push, present_kept, grow_agrees, need_met, reached_needed, end_settled, done, log_keeps}
+use Rattle.plai_theory.proofs.Logs.{step, need_met, reached_needed, end_settled, done, log_keeps}
+use Rattle.plai_theory.proofs.Growth.{grow_agrees}
+use Rattle.plai_theory.proofs.Invariant.{Inv, by_push, present_push, present_kept}
 
 has_up_to : {A : Type 0} (R : A → A → Type 0) (P Q : A → Type 0) (o u : Option A) → UpTo R o u → ((x y : A) → o ≡ Some x → u ≡ Some y → R x y → P x → Q y)
     → HasSome P o → HasSome Q u

@@ -12,24 +12,8 @@ use Rattle.plai_make.specs.Programs.{made_edits}
 use Rattle.plai_top.specs.Commands.{IsCommand, IsMake}
 use Rattle.plai_top.specs.Files.{texts_of, AreShort, IsSomeLong, HasFiles}
 use Rattle.plai_top.specs.Loadings.{IsLoading, IsPrepared}
-use Rattle.plai_top.specs.Outcome.{
-  Outcome,
-  silent,
-  line,
-  refused_by,
-  IsByWords,
-  IsEarly,
-  by_words,
-  too_long,
-  refused,
-  IsAsked,
-  by_files,
-  by_make,
-  IsByScript,
-  IsOutcome,
-  early,
-  by_script,
-}
+use Rattle.plai_top.specs.Outcome.{Outcome, silent, line, refused_by, IsByWords, IsEarly, by_words, too_long, refused, IsAsked, by_files, by_make, IsByScript}
+use Rattle.plai_top.specs.Outcome.{IsOutcome, early, by_script}
 use Rattle.plai_top.specs.Outputs.{KeepsWords}
 use Rattle.plai_top.specs.Plans.{IsPlan, IsMadePlan, IsScripted, KeepsEarly}
 use Rattle.plai_top.specs.Stops.{status_of, IsReadEnd}

@@ -11,22 +11,8 @@ use Rattle.plai_script.specs.declared.edit.Edit.{Edit}
 use Rattle.plai_session.specs.Programs.{behind}
 use Rattle.plai_top.specs.Blocks.{Block, texts_from, AreBlocksOf, one_more}
 use Rattle.plai_top.specs.Ending.{Comes, EndsBy, EndsByEach, EndsEarly, IsFaultOrComes}
-use Rattle.plai_top.specs.Outcome.{
-  Outcome,
-  silent,
-  line,
-  done,
-  IsByWords,
-  no_command,
-  too_many,
-  IsEarly,
-  by_words,
-  too_long,
-  AreBlocks,
-  IsMadeOutcome,
-  IsOutcome,
-  OutcomeIsOne,
-}
+use Rattle.plai_top.specs.Outcome.{Outcome, silent, line, done, IsByWords, no_command, too_many, IsEarly, by_words, too_long, AreBlocks, IsMadeOutcome}
+use Rattle.plai_top.specs.Outcome.{IsOutcome, OutcomeIsOne}
 use Rattle.plai_top.specs.Outcome as outcomes
 use Rattle.plai_top.specs.Plans.{IsPlan, IsFitPlan, IsLineOf, KeepsEarly, CarriesOut, IsPlanStop}
 use Rattle.plai_top.specs.Stops.{status_of, IsReadEnd}

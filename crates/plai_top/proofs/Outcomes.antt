@@ -16,56 +16,11 @@ use Rattle.plai_words.specs.declared.types.Settings.{Settings}
 use Rattle.plai_make.specs.Programs.{made_program, made_edits}
 use Rattle.plai_top.specs.Commands.{most_files, is_over_files, IsCommand, IsMake}
 use Rattle.plai_top.specs.Files.{texts_of, IsSomeLong, HasFiles, HasProgram, HasRefusal}
-use Rattle.plai_top.specs.Blocks.{
-  Block,
-  table_of,
-  stopped,
-  AreBlocksOf,
-  no_more,
-  one_more,
-  IsBlockOf,
-  is_table_of,
-  many_rows,
-  large_sets,
-  is_refused,
-  by_rows,
-  by_groups,
-  IsTableOrStop,
-  is_within,
-  is_stop,
-  AreSameUpToStops,
-  none_left,
-  same_block,
-  stop_before,
-  stop_behind,
-}
-use Rattle.plai_top.specs.Outcome.{
-  Outcome,
-  line,
-  done,
-  refused_by,
-  IsByWords,
-  no_command,
-  too_many,
-  IsEarly,
-  by_words,
-  too_long,
-  refused,
-  longest_script,
-  IsByScript,
-  script_too_long,
-  script_refused,
-  HasEdits,
-  AreBlocks,
-  IsAsked,
-  by_files,
-  by_make,
-  IsOutcome,
-  early,
-  by_script,
-  blocks,
-  OutcomeIsOne,
-}
+use Rattle.plai_top.specs.Blocks.{Block, table_of, stopped, AreBlocksOf, no_more, one_more, IsBlockOf, is_table_of, many_rows, large_sets, is_refused}
+use Rattle.plai_top.specs.Blocks.{by_rows, by_groups, IsTableOrStop, is_within, is_stop, AreSameUpToStops, none_left, same_block, stop_before, stop_behind}
+use Rattle.plai_top.specs.Outcome.{Outcome, line, done, refused_by, IsByWords, no_command, too_many, IsEarly, by_words, too_long, refused, longest_script}
+use Rattle.plai_top.specs.Outcome.{IsByScript, script_too_long, script_refused, HasEdits, AreBlocks, IsAsked, by_files, by_make, IsOutcome, early, by_script}
+use Rattle.plai_top.specs.Outcome.{blocks, OutcomeIsOne}
 use Rattle.plai_top.specs.Refusal.{script_refusal_text}
 use Rattle.plai_top.specs.Tasks.{domain_of, form_of, task_of}
 use Rattle.plai_top.specs.declared.task.Task.{Task}

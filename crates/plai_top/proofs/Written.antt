@@ -1,37 +1,6 @@
 -- Blocks that are written one by one are the blocks of a call.
-use Rattle.std.proofs.Common.{
-  ◌≡◌,
-  ◌≢◌,
-  ℕ,
-  zero,
-  suc,
-  ◌+◌,
-  Bool,
-  true,
-  false,
-  ◌&&◌,
-  cond,
-  List,
-  [],
-  ◌∷◌,
-  ◌++◌,
-  None,
-  Some,
-  Result,
-  Ok,
-  Err,
-  IfOk,
-  length,
-  take,
-  refl,
-  sym,
-  ◌∙◌,
-  ap,
-  subst,
-  inl,
-  inr,
-  arith,
-}
+use Rattle.std.proofs.Common.{◌≡◌, ◌≢◌, ℕ, zero, suc, ◌+◌, Bool, true, false, ◌&&◌, cond, List, [], ◌∷◌, ◌++◌, None, Some, Result, Ok, Err, IfOk, length, take}
+use Rattle.std.proofs.Common.{refl, sym, ◌∙◌, ap, subst, inl, inr, arith}
 use Rattle.std.proofs.Math.Seq.{take-append_seam, take-append-add}
 use Rattle.std.proofs.lemmas.List.{append-nil, append_assoc, length-append}
 use Rattle.std.proofs.lemmas.List.Folds.{list_all-append}
@@ -44,18 +13,7 @@ use Rattle.plai_clauses.specs.Program.{ProgramView}
 use Rattle.plai_clauses.specs.WellFormed.{IsWellFormed}
 use Rattle.plai_clauses.specs.declared.edit_cause.EditCause.{EditCause}
 use Rattle.plai_top.specs.Blocks.{Block, table, refused, stopped, text_of, texts_from, is_table, IsBlockOf, AreBlocksOf, no_more, one_more, IsTextOfFirst}
-use Rattle.plai_top.specs.Working.{
-  Span,
-  IsIdle,
-  AreJoined,
-  IsWorked,
-  AreWorked,
-  none_worked,
-  IsLastWorked,
-  is_unwritten,
-  AllWorked,
-  FirstWorked,
-}
+use Rattle.plai_top.specs.Working.{Span, IsIdle, AreJoined, IsWorked, AreWorked, none_worked, IsLastWorked, is_unwritten, AllWorked, FirstWorked}
 use Rattle.plai_top.specs.Writing.{WritesBlock, AreFormed, Wrote, WritesBlocks}
 use Rattle.plai_top.specs.declared.form.Form.{Form}
 use Rattle.plai_top.specs.declared.form.Form.TheVariants.{Tables, Counts}

@@ -1,29 +1,6 @@
 -- What is read of a division's answer in the code.
-use Rattle.std.proofs.Common.{
-  ◌≡◌,
-  ◌≢◌,
-  ℤ,
-  pos,
-  ◌+ℤ◌,
-  int_rem,
-  int_lt,
-  Bool,
-  true,
-  false,
-  if◌then◌else◌,
-  Option,
-  Some,
-  None,
-  rules,
-  refl,
-  ap,
-  sym,
-  ◌∙◌,
-  subst,
-  FitsSigned,
-  to_z,
-  of_z,
-}
+use Rattle.std.proofs.Common.{◌≡◌, ◌≢◌, ℤ, pos, ◌+ℤ◌, int_rem, int_lt, Bool, true, false, if◌then◌else◌, Option, Some, None, rules, refl, ap, sym, ◌∙◌, subst}
+use Rattle.std.proofs.Common.{FitsSigned, to_z, of_z}
 use Rattle.std.specs.Ordering.{int_eq}
 use Rattle.std.specs.Int.{w128}
 use Rattle.std.proofs.lemmas.Int.{to_z-of_z}

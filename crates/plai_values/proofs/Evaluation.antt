@@ -1,28 +1,6 @@
 -- The values of terms, level by level.
-use Rattle.std.proofs.Common.{
-  ◌≡◌,
-  ℕ,
-  ℤ,
-  List,
-  [],
-  ◌++◌,
-  map,
-  reverse,
-  length,
-  ◌<◌,
-  ◌-◌,
-  get_or,
-  Bor,
-  Option,
-  Some,
-  None,
-  rules,
-  sym,
-  ap,
-  ◌∙◌,
-  subst,
-  FitsSigned,
-}
+use Rattle.std.proofs.Common.{◌≡◌, ℕ, ℤ, List, [], ◌++◌, map, reverse, length, ◌<◌, ◌-◌, get_or, Bor, Option, Some, None, rules, sym, ap, ◌∙◌, subst}
+use Rattle.std.proofs.Common.{FitsSigned}
 use Rattle.std.specs.Int.{w128}
 use Rattle.std.specs.Option.{option_flatten}
 use Rattle.std.proofs.lemmas.Int.{to_z-of_z}

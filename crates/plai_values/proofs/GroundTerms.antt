@@ -1,29 +1,6 @@
 -- A term is ground where none of its subterms is a variable.
-use Rattle.std.proofs.Common.{
-  ◌≡◌,
-  ◌<◌,
-  ◌+◌,
-  ℕ,
-  Bool,
-  true,
-  false,
-  ◌&&◌,
-  List,
-  [],
-  ◌∷◌,
-  ◌++◌,
-  map,
-  flat_map,
-  drop,
-  get_or,
-  length,
-  Bor,
-  refl,
-  sym,
-  ap,
-  ◌∙◌,
-  rules,
-}
+use Rattle.std.proofs.Common.{◌≡◌, ◌<◌, ◌+◌, ℕ, Bool, true, false, ◌&&◌, List, [], ◌∷◌, ◌++◌, map, flat_map, drop, get_or, length, Bor, refl, sym, ap, ◌∙◌}
+use Rattle.std.proofs.Common.{rules}
 use Rattle.std.specs.List.{list_all, AllByRecursion}
 use Rattle.plai_terms.specs.Term.{is_ground}
 use Rattle.plai_terms.specs.Preorder.{arguments_of, preorder, referred}

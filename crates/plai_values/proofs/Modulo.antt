@@ -1,31 +1,6 @@
 -- What the quotient rounded down leaves, by what the quotient rounded towards zero leaves.
-use Rattle.std.proofs.Common.{
-  ◌≡◌,
-  ◌≢◌,
-  nat_lt,
-  ◌<◌,
-  ◌-◌,
-  ◌%◌,
-  ℕ,
-  zero,
-  suc,
-  ℤ,
-  pos,
-  negsuc,
-  ◌+ℤ◌,
-  neg_ℤ,
-  int_rem,
-  int_lt,
-  Bool,
-  true,
-  false,
-  arith,
-  refl,
-  ap,
-  sym,
-  ◌∙◌,
-  subst,
-}
+use Rattle.std.proofs.Common.{◌≡◌, ◌≢◌, nat_lt, ◌<◌, ◌-◌, ◌%◌, ℕ, zero, suc, ℤ, pos, negsuc, ◌+ℤ◌, neg_ℤ, int_rem, int_lt, Bool, true, false, arith, refl, ap}
+use Rattle.std.proofs.Common.{sym, ◌∙◌, subst}
 use Rattle.std.specs.Ordering.{int_eq}
 use Rattle.std.proofs.lemmas.Bool.{ltb-true, ltb-false}
 use Rattle.std.proofs.lemmas.Bool.Decides.{nat_tests}

@@ -1,42 +1,6 @@
 -- Powers, and products with powers of two, beyond 128 bits.
-use Rattle.std.proofs.Common.{
-  ◌≡◌,
-  ◌<◌,
-  ◌≤◌,
-  ◌+◌,
-  ◌-◌,
-  ◌*◌,
-  ◌/◌,
-  ◌%◌,
-  ◌^◌,
-  ◌==◌,
-  ℕ,
-  zero,
-  suc,
-  ℤ,
-  pos,
-  negsuc,
-  ◌*ℤ◌,
-  neg_ℤ,
-  unsigned_abs,
-  int_lt,
-  Bool,
-  true,
-  false,
-  cond,
-  if◌then◌else◌,
-  nat_lt,
-  Option,
-  None,
-  SomeIff,
-  arith,
-  refl,
-  ap,
-  sym,
-  ◌∙◌,
-  subst,
-  FitsSigned,
-}
+use Rattle.std.proofs.Common.{◌≡◌, ◌<◌, ◌≤◌, ◌+◌, ◌-◌, ◌*◌, ◌/◌, ◌%◌, ◌^◌, ◌==◌, ℕ, zero, suc, ℤ, pos, negsuc, ◌*ℤ◌, neg_ℤ, unsigned_abs, int_lt, Bool, true}
+use Rattle.std.proofs.Common.{false, cond, if◌then◌else◌, nat_lt, Option, None, SomeIff, arith, refl, ap, sym, ◌∙◌, subst, FitsSigned}
 use Rattle.std.specs.Int.{w128, int_pow}
 use Rattle.std.proofs.lemmas.Bool.{ltb-false}
 use Rattle.std.proofs.lemmas.Int.{to_z-of_z}

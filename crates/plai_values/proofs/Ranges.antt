@@ -1,29 +1,6 @@
 -- Integers of 128 bits, as the code reads and tests them.
-use Rattle.std.proofs.Common.{
-  ◌≡◌,
-  ◌^◌,
-  ◌<◌,
-  ℤ,
-  pos,
-  negsuc,
-  Bool,
-  true,
-  false,
-  if◌then◌else◌,
-  Option,
-  Some,
-  None,
-  SomeIff,
-  ◌≤◌,
-  arith,
-  ap,
-  sym,
-  ◌∙◌,
-  refl,
-  FitsSigned,
-  to_z,
-  of_z,
-}
+use Rattle.std.proofs.Common.{◌≡◌, ◌^◌, ◌<◌, ℤ, pos, negsuc, Bool, true, false, if◌then◌else◌, Option, Some, None, SomeIff, ◌≤◌, arith, ap, sym, ◌∙◌, refl}
+use Rattle.std.proofs.Common.{FitsSigned, to_z, of_z}
 use Rattle.std.specs.Int.{w128}
 use Rattle.std.proofs.lemmas.Bool.{ltb-true}
 use Rattle.std.proofs.lemmas.Bool.Decides.{nat_tests}

@@ -16,7 +16,8 @@ use Rattle.plai_words.specs.Line.{name_of, files_id, line}
 use Rattle.plai_words.specs.Taken.{Taken, settings_in, taken_given}
 use Rattle.plai_words.proofs.Joins.{finish, none_more, nothing_before}
 use Rattle.plai_words.proofs.Rows.{Holds, files_held, first_held, gatherer, holds_none, taker, untaken}
-use Rattle.plai_words.proofs.Shapes.{IsShort, all_rules, short_of_bundle}
+use Rattle.plai_words.proofs.Shapes.{IsShort, short_of_bundle}
+use Rattle.plai_words.proofs.Options.{all_rules}
 use Rattle.plai_words.proofs.Walks.{Reads, end_of, fault_left, or_nil, rows_left, shape, walk_at}
 use Rattle.plai_words.proofs.Readings.{reads}
 

@@ -1,30 +1,6 @@
 -- The settings that what clap found comes to.
-use Rattle.std.proofs.Common.{
-  ◌≡◌,
-  ◌≢◌,
-  ℕ,
-  List,
-  [],
-  ◌∷◌,
-  Bool,
-  Option,
-  None,
-  Some,
-  Result,
-  Ok,
-  Err,
-  true,
-  false,
-  refl,
-  ap,
-  sym,
-  ◌∙◌,
-  ◌≤◌,
-  IfSome,
-  arith,
-  length,
-  rules,
-}
+use Rattle.std.proofs.Common.{◌≡◌, ◌≢◌, ℕ, List, [], ◌∷◌, Bool, Option, None, Some, Result, Ok, Err, true, false, refl, ap, sym, ◌∙◌, ◌≤◌, IfSome, arith}
+use Rattle.std.proofs.Common.{length, rules}
 use Rattle.std.proofs.lemmas.Bool.{false≢true, true≢false}
 use Rattle.std.specs.Bool.{beq}
 use Rattle.std.specs.Prelude.{option_to_list, option_and_then, unwrap_or, is_some, ◌==◌, not, IfOk, IsErrOf, MatchResult}

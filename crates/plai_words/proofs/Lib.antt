@@ -1,9 +1,13 @@
+pub mod BehindDashes
 pub mod Bridge
 pub mod Bundles
 pub mod Digits
 pub mod Ends
 pub mod Joins
+pub mod Options
 pub mod Readings
 pub mod Rows
 pub mod Shapes
+pub mod Turns
 pub mod Walks
+pub mod WordKinds

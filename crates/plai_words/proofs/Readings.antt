@@ -1,108 +1,22 @@
 -- Clap's reading of the words and ours agree.
 use Rattle.std.proofs.Common.{◌≡◌, List, [], ◌∷◌, ◌++◌, Option, None, Some, true, false, refl, ap, ap₂, sym, ◌∙◌, subst, inl, inr}
-use Rattle.std.specs.Prelude.{if◌then◌else◌, nat_lt}
-use Rattle.std.specs.Option.{option_map_or}
 use Rattle.clap.specs.Kinds.{Kinds, or_else}
-use Rattle.clap.specs.Faults.{bundle_fault, long_fault, turn_fault, use_fault, walk_fault, word_fault}
-use Rattle.clap.specs.Walk.{
-  Held,
-  Row,
-  Rule,
-  Step,
-  Text,
-  Waiting,
-  Walk,
-  idle,
-  next,
-  option as waits_for,
-  option_word,
-  pending_count,
-  plain_word,
-  positional,
-  short_or_plain,
-  used,
-  value,
-  walked,
-  word_met,
-}
-use Rattle.clap.specs.declared.error.kind.ErrorKind.TheVariants.{UnknownArgument}
+use Rattle.clap.specs.Faults.{turn_fault, use_fault, walk_fault}
+use Rattle.clap.specs.Walk.{Row, Text, Walk, option as waits_for, positional, used, value, walked, word_met}
 use Rattle.plai_words.specs.Given.{Given, both, said, given}
-use Rattle.plai_words.specs.Options.{Key, Domain, Depth, Rows, Make, has_bundle, is_dashed}
+use Rattle.plai_words.specs.Options.{Key, has_bundle, is_dashed}
 use Rattle.plai_words.specs.Line.{name_of, files_id}
 use Rattle.plai_words.specs.Taken.{Taken, taken_given}
 use Rattle.plai_words.proofs.Joins.{both_assoc, files, finish, none_more, option}
 use Rattle.plai_words.proofs.Rows.{Holds, taker}
-use Rattle.plai_words.proofs.Shapes.{
-  IsPlainWord,
-  IsStray,
-  Word,
-  all_rules,
-  by_id,
-  by_long,
-  dashes,
-  ends,
-  gives,
-  names,
-  option_dashed,
-  plain,
-  short,
-  stray,
-  word_of,
-}
-use Rattle.plai_words.proofs.Walks.{
-  Awaits,
-  Open,
-  Pend,
-  Reads,
-  Settles,
-  Waits,
-  at_end,
-  behind_end,
-  clear_after,
-  doomed,
-  fault_at,
-  fault_by,
-  fault_is,
-  file_joins,
-  given_dashed,
-  given_ends,
-  given_gives,
-  given_names,
-  given_plain,
-  given_stray,
-  given_value,
-  go_on,
-  held_at,
-  left_nil,
-  long_value,
-  long_word_by,
-  met_by,
-  met_is,
-  gathers,
-  gather_fault,
-  name_no_end,
-  name_turn,
-  name_walked,
-  no_short,
-  no_value_fault,
-  not_nil,
-  or_nil,
-  pend_given,
-  pending_as,
-  rows_at,
-  rows_is,
-  settle,
-  settle_option,
-  shape,
-  stop,
-  turn_is,
-  value_is_no_end,
-  value_no_end,
-  waiting_at,
-  walk_at,
-  walked_is,
-  word_fault_is,
-}
+use Rattle.plai_words.proofs.Options.{all_rules, dashes, option_dashed}
+use Rattle.plai_words.proofs.Shapes.{IsPlainWord, IsStray, Word, ends, gives, names, plain, short, stray, word_of}
+use Rattle.plai_words.proofs.Walks.{Reads, Settles, fault_at, fault_is, go_on, held_at, left_nil, met_is, gathers, gather_fault, pend_given, pending_as}
+use Rattle.plai_words.proofs.Walks.{rows_at, rows_is, settle, settle_option, shape, stop, turn_is, waiting_at, walk_at, walked_is, word_fault_is}
+use Rattle.plai_words.proofs.BehindDashes.{at_end, behind_end, doomed, file_joins, no_value_fault, not_nil}
+use Rattle.plai_words.proofs.WordKinds.{Awaits, Open, clear_after, given_dashed, given_ends, given_gives, given_names, given_plain, given_stray, given_value}
+use Rattle.plai_words.proofs.WordKinds.{name_no_end, name_turn, name_walked, no_short, value_no_end}
+use Rattle.plai_words.proofs.Turns.{value_walked, value_turn, stray_turn, plain_met, plain_fault, plain_at, plain_waits}
 
 right_nil : (a b : Kinds) → or_else a b ≡ [] → b ≡ []
 right_nil [] b e = e
@@ -110,79 +24,6 @@ right_nil (k ∷ ks) b e = cc
 
 along : (w : Walk) (words : List Text) (g h : Option Given) → g ≡ h → Reads w words g → Reads w words h
 along w words g h e r = subst (λ (x : Option Given). Reads w words x) e r
-
--- ---- an option with its value
-
-module _ (rows : List Row) (pending : Waits) (waiting : Waiting) (key : Key) (v : Text) where
-  abbrev whole : Text
-  whole = 45 ∷ 45 ∷ (name_of key ++ 61 ∷ v)
-
-  abbrev rows_then : List Row
-  rows_then = used (taker (name_of key)) (v ∷ []) (rows_at rows pending)
-
-  value_met : word_met all_rules [] false waiting 1 whole (held_at rows pending) ≡ (held_at rows_then None, next idle)
-  value_met = met_by waiting whole (held_at rows pending) (Some (name_of key, Some v)) (value_is_no_end key v) (long_value key v)
-      ∙ ap (λ (a : Option Rule). long_word_by waiting whole (Some v) (held_at rows pending) a) (by_long key)
-
-  value_walked : walked all_rules [] (walk_at rows pending waiting false) whole ≡ walk_at rows_then None idle false
-  value_walked = walked_is rows pending waiting false whole _ value_met
-
-  value_turn : turn_fault shape [] (walk_at rows pending waiting false) whole
-      ≡ or_else (fault_at rows pending) (use_fault false (taker (name_of key)) (v ∷ []) (rows_at rows pending))
-  value_turn = turn_is rows pending waiting false whole _ _ value_met
-      (fault_by waiting whole (held_at rows pending) (Some (name_of key, Some v)) (value_is_no_end key v) (long_value key v)
-      ∙ ap (λ (a : Option Rule). long_fault all_rules false a (Some v) (held_at rows pending)) (by_long key))
-      ∙ or_nil (or_else (fault_at rows pending) (use_fault false (taker (name_of key)) (v ∷ []) (rows_at rows pending)))
-
--- ---- a word that names nothing
-
-stray_turn : (rows : List Row) (pending : Waits) (waiting : Waiting) (word : Text) → IsStray word
-    → turn_fault shape [] (walk_at rows pending waiting false) word ≡ [] → ⊥
-stray_turn rows pending waiting word s z =
-    let fault = fault_by waiting word (held_at rows pending) (Some s.whole) s.apart s.long
-    ∙ ap (λ (a : Option Rule). long_fault all_rules false a s.whole.1 (held_at rows pending)) s.unknown in
-    let turn = turn_is rows pending waiting false word (word_met all_rules [] false waiting 1 word (held_at rows pending)) (UnknownArgument ∷ []) refl fault in
-    let bad : UnknownArgument ∷ [] ≡ [] = sym turn ∙ z in
-    cc
-
--- ---- a word that is no option
-
-plain_met : (rows : List Row) (pending : Waits) (waiting : Waiting) (word : Text) → IsPlainWord word
-    → word_met all_rules [] false waiting 1 word (held_at rows pending) ≡ plain_word all_rules waiting word (held_at rows pending)
-plain_met rows pending waiting word p =
-    met_by waiting word (held_at rows pending) None p.apart p.long
-    ∙ ap (λ (o : Option Text). short_or_plain all_rules waiting word o (held_at rows pending)) p.short
-
-plain_fault : (rows : List Row) (pending : Waits) (waiting : Waiting) (word : Text) → IsPlainWord word
-    → word_fault shape [] false waiting word (held_at rows pending) ≡ []
-plain_fault rows pending waiting word p =
-    fault_by waiting word (held_at rows pending) None p.apart p.long
-    ∙ ap (λ (o : Option Text). option_map_or (λ flags. bundle_fault all_rules false flags (held_at rows pending)) o []) p.short
-
-plain_at : (p : Pend) (word : Text) (h : Held) → plain_word all_rules (waiting_at p) word h ≡ (h, value)
-plain_at None word h = refl
-plain_at (Some (option key, v)) word h = refl
-plain_at (Some (files, v)) word h = refl
-
-counted : (key : Key) (word : Text)
-    → (if nat_lt (pending_count (taker (name_of key)) (Some (name_of key, word ∷ []))) 1 then waits_for (name_of key) else idle) ≡ idle
-counted Domain word = refl
-counted Depth word = refl
-counted Rows word = refl
-counted Make word = refl
-
-abbrev option_word_by : Text → Text → Held → Option Rule → Held × Step
-option_word_by id word h a = ((option_word a id word h).0, next (option_word a id word h).1)
-
-abbrev stepped : Held → Waiting → Held × Step
-stepped h w = (h, next w)
-
-plain_waits : (rows : List Row) (key : Key) (word : Text)
-    → plain_word all_rules (waits_for (name_of key)) word (held_at rows (Some (name_of key, [])))
-    ≡ (held_at rows (Some (name_of key, word ∷ [])), next idle)
-plain_waits rows key word =
-    ap (λ (a : Option Rule). option_word_by (name_of key) word (held_at rows (Some (name_of key, []))) a) (by_id (option key))
-    ∙ ap (λ (w : Waiting). stepped (held_at rows (Some (name_of key, word ∷ []))) w) (counted key word)
 
 -- ---- each kind of word, where no option waits
 

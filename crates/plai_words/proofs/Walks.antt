@@ -1,55 +1,23 @@
--- What clap's walk makes of the words.
-use Rattle.std.proofs.Common.{◌≡◌, ◌⊎◌, List, [], ◌∷◌, ◌++◌, Bool, Option, None, Some, true, false, refl, ap, ap₂, sym, ◌∙◌, subst, inl, inr}
+-- What clap's walk makes of one word, and of a value that waits to be used.
+use Rattle.std.proofs.Common.{◌≡◌, ◌⊎◌, List, [], ◌∷◌, Bool, Option, None, Some, true, false, refl, ap, ap₂, sym, ◌∙◌, subst, inl, inr}
 use Rattle.std.specs.Prelude.{◌&&◌, ◌||◌, codes, fold, is_some, option_map, if◌then◌else◌}
 use Rattle.std.specs.Option.{option_map_or}
 use Rattle.std.specs.Str.{bytes_eq}
-use Rattle.std.proofs.lemmas.Bool.{true≢false}
 use Rattle.clap.specs.Lexer.{long_of}
 use Rattle.clap.specs.Kinds.{Kinds, or_else}
-use Rattle.clap.specs.Faults.{flag_word_fault, long_fault, other_fault, settle_fault, step_fault, turn_fault, use_fault, walk_fault, word_fault}
+use Rattle.clap.specs.Faults.{flag_word_fault, other_fault, settle_fault, step_fault, turn_fault, use_fault, walk_fault, word_fault}
 use Rattle.clap.specs.Simple.{Shape, new_shape}
-use Rattle.clap.specs.Walk.{
-  Held,
-  Row,
-  Rule,
-  Step,
-  Text,
-  Waiting,
-  Walk,
-  after_flag,
-  after_step,
-  has_row,
-  idle,
-  is_pending,
-  long_met,
-  long_or_other,
-  next,
-  option as waits_for,
-  positional,
-  pushed,
-  settled,
-  settled_rows,
-  subcommand_met,
-  subcommand_or_other,
-  trailing,
-  used,
-  used_by_id,
-  value,
-  walked,
-  word_met,
-  arg_by_index,
-  to_positional,
-}
-use Rattle.clap.specs.declared.error.kind.ErrorKind.TheVariants.{ArgumentConflict, InvalidValue}
-use Rattle.plai_words.specs.Given.{Given, nothing, both, said, file, given}
-use Rattle.plai_words.specs.Options.{Key, Domain, Depth, Rows, Make, attached, behind, has_bundle, is_bundle, is_dashed, is_end, is_option, named}
-use Rattle.plai_words.specs.Numbers.{number, is_short_numeral}
-use Rattle.plai_words.specs.Given.{domain_named}
+use Rattle.clap.specs.Walk.{Held, Row, Rule, Step, Text, Waiting, Walk, after_step, has_row, idle, is_pending, long_or_other, option as waits_for, positional}
+use Rattle.clap.specs.Walk.{pushed, settled, settled_rows, subcommand_met, subcommand_or_other, trailing, used, used_by_id, value, walked, word_met}
+use Rattle.clap.specs.Walk.{arg_by_index, to_positional}
+use Rattle.clap.specs.declared.error.kind.ErrorKind.TheVariants.{ArgumentConflict}
+use Rattle.plai_words.specs.Given.{Given, both}
+use Rattle.plai_words.specs.Options.{Key}
 use Rattle.plai_words.specs.Line.{name_of, files_id}
 use Rattle.plai_words.specs.Taken.{Taken, taken_given}
-use Rattle.plai_words.proofs.Joins.{IsNever, Slot, add, added_file, added_option, both_assoc, files, finish, nothing_more, option, slot_said, twice}
+use Rattle.plai_words.proofs.Joins.{IsNever, Slot, add, added_file, added_option, files, finish, option, slot_said, twice}
 use Rattle.plai_words.proofs.Rows.{Holds, gatherer, has_row_is, holds_file, holds_option, id_of, rule_at, taker}
-use Rattle.plai_words.proofs.Shapes.{IsPlainWord, IsStray, all_rules, by_id, by_long, dashed_option, dashes}
+use Rattle.plai_words.proofs.Options.{all_rules, dashes, by_id}
 
 abbrev pub shape : Shape
 shape = record (new_shape (codes "plai")) {
@@ -235,209 +203,3 @@ module _ (rows : List Row) (pending : Waits) (waiting : Waiting) (is_trailing : 
 
   pub gather_fault : step_fault shape 1 (held_at rows pending) value ≡ fault_at rows pending
   gather_fault = skip (is_pending gatherer pending) [] (fault_at rows pending)
-
--- ---- behind `--`
-
-pub file_joins : (t u : Taken) (p : Pend) (word : Text) (rest : Option Given) → pend_given t p ≡ taken_given u
-    → both (both (taken_given u) (Some (file word))) rest ≡ both (pend_given t p) (both (Some (file word)) rest)
-file_joins t u p word rest e = both_assoc (taken_given u) (Some (file word)) rest ∙ ap (λ (g : Option Given). both g (both (Some (file word)) rest)) (sym e)
-
-abbrev pub only_files : List Text → Option Given
-only_files words = Some (record nothing { files = words })
-
-pub at_end : (t : Taken) (rows : List Row) (p : Pend) (waiting : Waiting) (is_trailing : Bool) → Settles t rows p
-    → Reads (walk_at rows (pending_as p) waiting is_trailing) [] (both (pend_given t p) (Some nothing))
-unfolding walk_fault
-at_end t rows p waiting is_trailing (inl s) = inl (s.0, (s.1.0, (s.1.1.0, ap finish (nothing_more (pend_given t p) ∙ s.1.1.1))))
-at_end t rows p waiting is_trailing (inr s) = inr (s.0, s.1 (Some nothing))
-
-pub behind_end : (words : List Text) (t : Taken) (rows : List Row) (p : Pend) (waiting : Waiting) → Holds t rows
-    → Reads (walk_at rows (pending_as p) waiting true) words (both (pend_given t p) (only_files words))
-behind_end [] t rows p waiting h = at_end t rows p waiting true (settle p t rows h)
-behind_end (word ∷ words) t rows p waiting h = go (settle p t rows h)
-    (λ u hu. behind_end words u (rows_at rows (pending_as p)) (Some (files, word)) positional hu)
-  where
-    turn : turn_fault shape [] (walk_at rows (pending_as p) waiting true) word ≡ fault_at rows (pending_as p)
-    turn = turn_is rows (pending_as p) waiting true word (held_at rows (pending_as p), value) [] refl refl ∙ gather_fault rows (pending_as p) waiting true word
-
-    next_walk : walked all_rules [] (walk_at rows (pending_as p) waiting true) word
-        ≡ walk_at (rows_at rows (pending_as p)) (Some (files_id, word ∷ [])) positional true
-    next_walk = walked_is rows (pending_as p) waiting true word (held_at rows (pending_as p), value) refl ∙ gathers rows (pending_as p) waiting true word
-
-    go : Settles t rows p → ((u : Taken) → Holds u (rows_at rows (pending_as p))
-        → Reads (walk_at (rows_at rows (pending_as p)) (Some (files_id, word ∷ [])) positional true) words
-        (both (both (taken_given u) (Some (file word))) (only_files words)))
-        → Reads (walk_at rows (pending_as p) waiting true) (word ∷ words) (both (pend_given t p) (only_files (word ∷ words)))
-    go (inl s) before = go_on _ _ word words _ next_walk (turn ∙ s.0)
-        (subst (λ (g : Option Given). Reads (walk_at (rows_at rows (pending_as p)) (Some (files_id, word ∷ [])) positional true) words g)
-        (file_joins t s.1.0 p word (only_files words) s.1.1.1) (before s.1.0 s.1.1.0))
-    go (inr s) before = stop _ word words _ (λ z. s.0 (sym turn ∙ z)) (s.1 (only_files (word ∷ words)))
-
--- ---- an option that waits for its value
-
-pub no_value_fault : (key : Key) (rows : List Row) → fault_at rows (Some (name_of key, [])) ≡ InvalidValue ∷ []
-no_value_fault key rows = fault_is (option key) [] rows
-
-pub not_nil : (f : Kinds) → f ≡ InvalidValue ∷ [] → f ≡ [] → ⊥
-not_nil f e z = let bad : InvalidValue ∷ [] ≡ [] = sym e ∙ z in cc
-
-pub doomed : (words : List Text) (rows : List Row) (key : Key) (waiting : Waiting)
-    → fault_left (walk_at rows (Some (name_of key, [])) waiting true) words ≡ [] → ⊥
-unfolding walk_fault
-doomed [] rows key waiting z = not_nil _ (no_value_fault key rows) z
-doomed (word ∷ words) rows key waiting z =
-    not_nil _ (turn_is rows (Some (name_of key, [])) waiting true word (held_at rows (Some (name_of key, [])), value) [] refl refl
-    ∙ gather_fault rows (Some (name_of key, [])) waiting true word ∙ no_value_fault key rows) (left_nil _ _ (left_nil _ _ z))
-
--- ---- the words before `--`
-
-abbrev pub Open : List Text → Type 0
-Open words = has_bundle words ≡ false → (t : Taken) (rows : List Row) (p : Pend) → Holds t rows
-    → Reads (walk_at rows (pending_as p) (waiting_at p) false) words (both (pend_given t p) (given words None))
-
-abbrev pub Awaits : List Text → Type 0
-Awaits words = has_bundle words ≡ false → (t : Taken) (rows : List Row) (key : Key) → Holds t rows
-    → Reads (walk_at rows (Some (name_of key, [])) (waits_for (name_of key)) false) words (both (taken_given t) (given words (Some key)))
-
-or_right : (a b : Bool) → (a || b) ≡ false → b ≡ false
-or_right true b h = absurd (true≢false h)
-or_right false b h = h
-
-pub clear_after : (word : Text) (words : List Text) → is_end word ≡ false → has_bundle (word ∷ words) ≡ false → has_bundle words ≡ false
-unfolding has_bundle
-clear_after word words e h = or_right (is_bundle word) (has_bundle words) (rw e at h)
-
-pub no_short : (word : Text) (words : List Text) → is_bundle word ≡ true → is_end word ≡ false → has_bundle (word ∷ words) ≡ false → ⊥
-unfolding has_bundle
-no_short word words b e h = let bad : true ≡ false = rw (e, b) at h in true≢false bad
-
--- what our definition says of each kind of word
-
-pub given_ends : (words : List Text) → given (dashes ∷ words) None ≡ only_files words
-unfolding given is_end
-given_ends words = refl
-
-pub given_names : (key : Key) (words : List Text) → given ((45 ∷ 45 ∷ name_of key) ∷ words) None ≡ given words (Some key)
-unfolding given is_end is_option is_dashed named
-given_names Domain words = refl
-given_names Depth words = refl
-given_names Rows words = refl
-given_names Make words = refl
-
-pub given_stray : (word : Text) (words : List Text) → IsStray word → given (word ∷ words) None ≡ None
-unfolding given
-given_stray word words s = rw (s.no_end, s.option, s.unnamed, s.unattached) refl
-
-pub given_plain : (word : Text) (words : List Text) → IsPlainWord word → given (word ∷ words) None ≡ both (Some (file word)) (given words None)
-unfolding given
-given_plain word words p = rw (p.no_end, p.no_option) refl
-
-pub given_dashed : (word : Text) (words : List Text) (key : Key) → is_dashed word ≡ true → given (word ∷ words) (Some key) ≡ None
-unfolding given
-given_dashed word words key d = rw d refl
-
-said_dash : (key : Key) → said key (45 ∷ []) ≡ None
-unfolding domain_named number is_short_numeral
-said_dash Domain = refl
-said_dash Depth = refl
-said_dash Rows = refl
-said_dash Make = refl
-
-pub given_value : (word : Text) (words : List Text) (key : Key) → (is_dashed word ≡ false) ⊎ (word ≡ 45 ∷ [])
-    → given (word ∷ words) (Some key) ≡ both (said key word) (given words None)
-unfolding given is_dashed
-given_value word words key (inl d) = rw d refl
-given_value word words key (inr e) =
-    subst (λ (w : Text). given (w ∷ words) (Some key) ≡ both (said key w) (given words None)) (sym e)
-    (ap (λ (g : Option Given). both g (given words None)) (sym (said_dash key)))
-
--- what clap makes of each kind of word
-
-name_is_no_end : (key : Key) → bytes_eq (45 ∷ 45 ∷ name_of key) dashes ≡ false
-name_is_no_end Domain = refl
-name_is_no_end Depth = refl
-name_is_no_end Rows = refl
-name_is_no_end Make = refl
-
-pub name_no_end : (key : Key) → is_end (45 ∷ 45 ∷ name_of key) ≡ false
-unfolding is_end
-name_no_end key = name_is_no_end key
-
-long_name : (key : Key) → long_of (45 ∷ 45 ∷ name_of key) ≡ Some (name_of key, None)
-long_name Domain = refl
-long_name Depth = refl
-long_name Rows = refl
-long_name Make = refl
-
-pub value_is_no_end : (key : Key) (v : Text) → bytes_eq (45 ∷ 45 ∷ (name_of key ++ 61 ∷ v)) dashes ≡ false
-value_is_no_end Domain v = refl
-value_is_no_end Depth v = refl
-value_is_no_end Rows v = refl
-value_is_no_end Make v = refl
-
-pub value_no_end : (key : Key) (v : Text) → is_end (45 ∷ 45 ∷ (name_of key ++ 61 ∷ v)) ≡ false
-unfolding is_end
-value_no_end key v = value_is_no_end key v
-
-pub long_value : (key : Key) (v : Text) → long_of (45 ∷ 45 ∷ (name_of key ++ 61 ∷ v)) ≡ Some (name_of key, Some v)
-long_value Domain v = refl
-long_value Depth v = refl
-long_value Rows v = refl
-long_value Make v = refl
-
-value_option : (key : Key) (v : Text) → is_option (45 ∷ 45 ∷ (name_of key ++ 61 ∷ v)) ≡ true
-value_option key v = dashed_option 45 (name_of key ++ 61 ∷ v)
-
-value_unnamed : (key : Key) (v : Text) → named (45 ∷ 45 ∷ (name_of key ++ 61 ∷ v)) ≡ None
-unfolding named
-value_unnamed Domain v = refl
-value_unnamed Depth v = refl
-value_unnamed Rows v = refl
-value_unnamed Make v = refl
-
-value_attached : (key : Key) (v : Text) → attached (45 ∷ 45 ∷ (name_of key ++ 61 ∷ v)) ≡ Some (key, v)
-unfolding attached behind
-value_attached Domain v = refl
-value_attached Depth v = refl
-value_attached Rows v = refl
-value_attached Make v = refl
-
-pub given_gives : (key : Key) (v : Text) (words : List Text)
-    → given ((45 ∷ 45 ∷ (name_of key ++ 61 ∷ v)) ∷ words) None ≡ both (said key v) (given words None)
-unfolding given
-given_gives key v words = rw (value_no_end key v, value_option key v, value_unnamed key v, value_attached key v) refl
-
--- a word that is not `--`, by what clap's lexer says of it
-pub met_by : (waiting : Waiting) (word : Text) (h : Held) (o : Option (Text × Option Text)) → bytes_eq word dashes ≡ false → long_of word ≡ o
-    → word_met all_rules [] false waiting 1 word h ≡ long_or_other all_rules waiting word o h
-met_by waiting word h o n l =
-    met_is waiting word h ∙ ap (λ (b : Bool). if b then (h, trailing 1) else long_or_other all_rules waiting word (long_of word) h) n
-    ∙ ap (λ (x : Option (Text × Option Text)). long_or_other all_rules waiting word x h) l
-
-pub fault_by : (waiting : Waiting) (word : Text) (h : Held) (o : Option (Text × Option Text)) → bytes_eq word dashes ≡ false → long_of word ≡ o
-    → word_fault shape [] false waiting word h ≡ flag_word_fault all_rules false o word h
-fault_by waiting word h o n l =
-    word_fault_is waiting word h ∙ ap (λ (b : Bool). if b then [] else flag_word_fault all_rules false (long_of word) word h) n
-    ∙ ap (λ (x : Option (Text × Option Text)). flag_word_fault all_rules false x word h) l
-
-abbrev pub long_word_by : Waiting → Text → Option Text → Held → Option Rule → Held × Step
-long_word_by waiting word v h a = after_flag all_rules waiting word (long_met all_rules a v h).0 (long_met all_rules a v h).1
-
-module _ (rows : List Row) (pending : Waits) (waiting : Waiting) (key : Key) where
-  abbrev pub name : Text
-  name = 45 ∷ 45 ∷ name_of key
-
-  name_met : word_met all_rules [] false waiting 1 name (held_at rows pending)
-      ≡ (held_at (rows_at rows pending) (Some (name_of key, [])), next (waits_for (name_of key)))
-  name_met = met_by waiting name (held_at rows pending) (Some (name_of key, None)) (name_is_no_end key) (long_name key)
-      ∙ ap (λ (a : Option Rule). long_word_by waiting name None (held_at rows pending) a) (by_long key)
-
-  pub name_walked : walked all_rules [] (walk_at rows pending waiting false) name
-      ≡ walk_at (rows_at rows pending) (Some (name_of key, [])) (waits_for (name_of key)) false
-  name_walked = walked_is rows pending waiting false name _ name_met
-
-  pub name_turn : turn_fault shape [] (walk_at rows pending waiting false) name ≡ fault_at rows pending
-  name_turn = turn_is rows pending waiting false name _ _ name_met
-      (fault_by waiting name (held_at rows pending) (Some (name_of key, None)) (name_is_no_end key) (long_name key)
-      ∙ ap (λ (a : Option Rule). long_fault all_rules false a None (held_at rows pending)) (by_long key))
-      ∙ or_nil (fault_at rows pending)

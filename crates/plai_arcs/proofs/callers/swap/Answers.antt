@@ -1,7 +1,7 @@
 use Rattle.std.proofs.Common.{◌<◌, [], length, ap, ◌∙◌, arith}
 use Rattle.plai_arcs.specs.declared.callers.Callers.{Callers}
 use Rattle.plai_arcs.specs.Places.{at}
-use Rattle.plai_arcs.proofs.RenameLemmas.{at_swap, at_no_swap}
+use Rattle.plai_arcs.proofs.SwapLemmas.{at_swap, at_no_swap}
 use Rattle.plai_arcs.proofs.callers.swap.Goals as goal
 
 pub returns-then-last-callers : goal.returns-then-last-callers

@@ -2,7 +2,7 @@ use Rattle.std.proofs.Common.{◌<◌, false, length, ap, ◌∙◌, arith}
 use Rattle.plai_arcs.specs.declared.dirty_row.DirtyRow.{DirtyRow}
 use Rattle.plai_arcs.specs.Flags.{flag_at}
 use Rattle.plai_arcs.specs.Places.{at}
-use Rattle.plai_arcs.proofs.RenameLemmas.{at_swap, at_no_swap}
+use Rattle.plai_arcs.proofs.SwapLemmas.{at_swap, at_no_swap}
 use Rattle.plai_arcs.proofs.dirty.swap.Goals as goal
 
 pub returns-then-last-rows : goal.returns-then-last-rows

@@ -2,7 +2,7 @@ use Rattle.std.proofs.Common.{◌≡◌, ◌&&◌, true, false, cond, nat_eq, sl
 use Rattle.std.specs.List.{list_any}
 use Rattle.plai_arcs.specs.Links.{callers_at, call_count, last_is, one_if}
 use Rattle.plai_arcs.proofs.JoinLemmas.{joined_none, joined_already, joined_now, caller_fits_now, index_default}
-use Rattle.plai_arcs.proofs.RenameLemmas.{take_past}
+use Rattle.plai_arcs.proofs.SwapLemmas.{take_past}
 use Rattle.plai_arcs.proofs.links.link_all.Goals as goal
 
 pub each-init : goal.each-init

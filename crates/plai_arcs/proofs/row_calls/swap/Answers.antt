@@ -2,7 +2,7 @@ use Rattle.std.proofs.Common.{◌<◌, [], length, ap, ◌∙◌, arith}
 use Rattle.plai_arcs.specs.declared.row_calls.RowCalls.{RowCalls}
 use Rattle.plai_arcs.specs.Links.{calls_in}
 use Rattle.plai_arcs.specs.Places.{at}
-use Rattle.plai_arcs.proofs.RenameLemmas.{at_swap, at_no_swap}
+use Rattle.plai_arcs.proofs.SwapLemmas.{at_swap, at_no_swap}
 use Rattle.plai_arcs.proofs.row_calls.swap.Goals as goal
 
 pub returns-then-last-rows : goal.returns-then-last-rows

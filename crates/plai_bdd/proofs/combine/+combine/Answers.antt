@@ -2,22 +2,9 @@ use Rattle.std.proofs.Common.{sym, ap, ◌∙◌, arith}
 use Rattle.plai_bdd.specs.declared.change.Placed.TheVariants.{Fixed}
 use Rattle.plai_bdd.proofs.Adding.{Adds-there}
 use Rattle.plai_bdd.proofs.Tables.{put_grown}
-use Rattle.plai_bdd.proofs.Steps.{
-  memo_noted,
-  ok_then,
-  leaves,
-  decided,
-  placed_ok,
-  memo_ok,
-  left_split,
-  right_split,
-  high_falls,
-  step_placed,
-  step_true,
-  step_false,
-  step_parted,
-  join_grown,
-}
+use Rattle.plai_bdd.proofs.Steps.{ok_then, leaves, decided, placed_ok, left_split, right_split, high_falls, step_placed, step_true, step_false, step_parted}
+use Rattle.plai_bdd.proofs.Steps.{join_grown}
+use Rattle.plai_bdd.proofs.Noted.{memo_noted, memo_ok}
 use Rattle.plai_bdd.proofs.combine.+combine.Goals as goal
 
 pub combine-returns-then-is_decided-clause-added : goal.combine-returns-then-is_decided-clause-added

@@ -4,7 +4,8 @@ use Rattle.plai_terms.specs.declared.term.Term.{Term, Compound, the_lemmas}
 use Rattle.plai_terms.specs.Readable.{is_wide}
 use Rattle.plai_clauses.specs.Bodies.{Puts}
 use Rattle.plai_clauses.specs.ClauseOf.{body_of, is_conjunction}
-use Rattle.plai_clauses.proofs.Bodies.{put_more, put_fails, put_all, narrow_part, joined_at, single_at}
+use Rattle.plai_clauses.proofs.Bodies.{narrow_part, joined_at, single_at}
+use Rattle.plai_clauses.proofs.PutLiterals.{put_more, put_fails, put_all}
 use Rattle.plai_clauses.proofs.from_term.+push_goals.Goals as goal
 
 pub returns-then-not-is_conjunction : goal.returns-then-not-is_conjunction

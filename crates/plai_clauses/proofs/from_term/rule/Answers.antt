@@ -1,7 +1,7 @@
 use Rattle.std.proofs.Common.{◌∙◌, ap, sym, ◌≡◌, [], Ok}
 use Rattle.plai_clauses.specs.Bodies.{behind}
 use Rattle.plai_clauses.specs.ClauseOf.{body_of, goals_of}
-use Rattle.plai_clauses.proofs.Bodies.{widest_few}
+use Rattle.plai_clauses.proofs.PutLiterals.{widest_few}
 use Rattle.plai_clauses.proofs.from_term.rule.Goals as goal
 
 pub within_slots-requires-clause-narrow : goal.within_slots-requires-clause-narrow

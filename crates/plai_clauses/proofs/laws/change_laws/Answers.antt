@@ -1,13 +1,5 @@
-use Rattle.plai_clauses.proofs.Kept.{
-  keeps_with_module,
-  keeps_with_clause,
-  keeps_without_clause,
-  keeps_without_clauses,
-  keeps_with_entry,
-  keeps_without_entry,
-  keeps_with_check,
-  keeps_without_check,
-}
+use Rattle.plai_clauses.proofs.Kept.{keeps_with_module, keeps_with_clause, keeps_without_clause, keeps_without_clauses, keeps_with_entry, keeps_without_entry}
+use Rattle.plai_clauses.proofs.Kept.{keeps_with_check, keeps_without_check}
 use Rattle.plai_clauses.proofs.laws.change_laws.Goals as goal
 
 pub returns : goal.returns

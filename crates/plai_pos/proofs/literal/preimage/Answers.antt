@@ -5,7 +5,7 @@ use Rattle.plai_bdd.specs.Nodes.{holds}
 use Rattle.plai_bdd.proofs.Slots.{some_meaning}
 use Rattle.plai_bdd.proofs.Steps.{ok_then}
 use Rattle.plai_pos.proofs.Factors.{at_alone}
-use Rattle.plai_pos.proofs.Literals.{replaced_is, preimage_is}
+use Rattle.plai_pos.proofs.Preimages.{replaced_is, preimage_is}
 use Rattle.plai_pos.proofs.literal.preimage.Goals as goal
 
 pub returns : goal.returns

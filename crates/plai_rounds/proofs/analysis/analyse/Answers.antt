@@ -5,7 +5,7 @@ use Rattle.plai_rounds.specs.Names.{names_in, rows_of}
 use Rattle.plai_rounds.specs.Output.{plain_rows}
 use Rattle.plai_rounds.specs.Reaching.{IsDone}
 use Rattle.plai_rounds.proofs.Ends.{not_over}
-use Rattle.plai_rounds.proofs.Reaching.{settled_done}
+use Rattle.plai_rounds.proofs.ReachSteps.{settled_done}
 use Rattle.plai_rounds.proofs.LeastRows.{text_table}
 use Rattle.plai_rounds.proofs.analysis.analyse.Goals as goal
 

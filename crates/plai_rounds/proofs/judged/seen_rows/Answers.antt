@@ -5,7 +5,8 @@ use Rattle.plai_assert.specs.Rows.{IsFit}
 use Rattle.plai_rounds.specs.Names.{key_name, names_in, rows_of}
 use Rattle.plai_rounds.proofs.Lists.{get_in}
 use Rattle.plai_rounds.proofs.Fits.{answers_fit}
-use Rattle.plai_rounds.proofs.Reaching.{name_at_place, reached_call}
+use Rattle.plai_rounds.proofs.Reaching.{reached_call}
+use Rattle.plai_rounds.proofs.ReachSteps.{name_at_place}
 use Rattle.plai_rounds.proofs.Seen.{row_plain, row_fits, seen_more}
 use Rattle.plai_rounds.proofs.judged.seen_rows.Goals as goal
 

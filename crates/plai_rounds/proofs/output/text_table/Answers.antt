@@ -1,7 +1,8 @@
 use Rattle.plai_rounds.specs.Names.{key_name, names_in, rows_of}
 use Rattle.plai_rounds.proofs.Lists.{get_in}
 use Rattle.plai_rounds.proofs.Fits.{answers_fit}
-use Rattle.plai_rounds.proofs.Reaching.{name_at_place, reached_call}
+use Rattle.plai_rounds.proofs.Reaching.{reached_call}
+use Rattle.plai_rounds.proofs.ReachSteps.{name_at_place}
 use Rattle.plai_rounds.proofs.LeastRows.{few_arguments, texts_more}
 use Rattle.plai_rounds.proofs.output.text_table.Goals as goal
 

@@ -1,7 +1,7 @@
 use Rattle.std.proofs.Common.{◌≡◌, ◌≤◌, length, arith}
 use Rattle.plai_rounds.specs.Names.{names_in, rows_of}
 use Rattle.plai_rounds.proofs.Lists.{length_map}
-use Rattle.plai_rounds.proofs.Reaching.{begun, no_reach, named_more, named_all}
+use Rattle.plai_rounds.proofs.ReachSteps.{begun, no_reach, named_more, named_all}
 use Rattle.plai_rounds.proofs.reach.reach.Goals as goal
 
 pub loop-index-init : goal.loop-index-init

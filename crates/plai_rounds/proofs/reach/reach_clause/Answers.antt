@@ -10,7 +10,8 @@ use Rattle.plai_rounds.proofs.Lists.{if_err, get_in}
 use Rattle.plai_rounds.proofs.Fits.{answers_fit}
 use Rattle.plai_rounds.proofs.Causes.{over_cause, in_clauses}
 use Rattle.plai_rounds.proofs.Working.{evaluation_as}
-use Rattle.plai_rounds.proofs.Reaching.{name_at_place, same_place, reached_near, name_reached, reached_call, called_reached, reach_adds, reach_cause}
+use Rattle.plai_rounds.proofs.Reaching.{reached_near, name_reached, reached_call, called_reached, reach_adds, reach_cause}
+use Rattle.plai_rounds.proofs.ReachSteps.{name_at_place, same_place}
 use Rattle.plai_rounds.proofs.reach.reach_clause.Goals as goal
 
 pub evaluate_clause-requires-clause-clause : goal.evaluate_clause-requires-clause-clause

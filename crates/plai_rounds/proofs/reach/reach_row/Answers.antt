@@ -2,7 +2,7 @@ use Rattle.std.proofs.Common.{◌≡◌, ◌+◌, ◌-◌, Some, length, slice_g
 use Rattle.plai_rounds.specs.Names.{key_name, names_in, rows_of}
 use Rattle.plai_rounds.specs.Causes.{IsClauseOf}
 use Rattle.plai_rounds.proofs.Lists.{get_or_get, length_map}
-use Rattle.plai_rounds.proofs.Reaching.{name_at_place, same_place, reach_then, no_reach, reach_longer, called_more, called_all}
+use Rattle.plai_rounds.proofs.ReachSteps.{name_at_place, same_place, reach_then, no_reach, reach_longer, called_more, called_all}
 use Rattle.plai_rounds.proofs.Sweeping.{numbered}
 use Rattle.plai_rounds.proofs.reach.reach_row.Goals as goal
 

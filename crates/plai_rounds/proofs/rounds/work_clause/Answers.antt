@@ -10,20 +10,8 @@ use Rattle.plai_rounds.specs.Causes.{HasCause}
 use Rattle.plai_rounds.proofs.Lists.{if_err, get_in}
 use Rattle.plai_rounds.proofs.Fits.{call_fits, answers_fit}
 use Rattle.plai_rounds.proofs.Causes.{made_near, adding_cause, over_cause, in_clauses}
-use Rattle.plai_rounds.proofs.Working.{
-  entry_at,
-  at_name,
-  one_name,
-  own_row,
-  entry_stays,
-  answer_of_entry,
-  evaluation_as,
-  both_values,
-  had_fits,
-  given_fits,
-  asked,
-  clause_works,
-}
+use Rattle.plai_rounds.proofs.Working.{entry_at, at_name, one_name, own_row, entry_stays, answer_of_entry, evaluation_as, both_values, had_fits, given_fits}
+use Rattle.plai_rounds.proofs.Working.{asked, clause_works}
 use Rattle.plai_rounds.proofs.rounds.work_clause.Goals as goal
 
 pub evaluate_clause-requires-clause-clause : goal.evaluate_clause-requires-clause-clause

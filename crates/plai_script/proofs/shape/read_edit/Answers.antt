@@ -1,4 +1,4 @@
-use Rattle.plai_script.proofs.Parts.{edit_readable}
+use Rattle.plai_script.proofs.EditTerms.{edit_readable}
 use Rattle.plai_script.proofs.shape.read_edit.Goals as goal
 
 pub returns-in-Ok-clause-readable : goal.returns-in-Ok-clause-readable

@@ -1,18 +1,7 @@
 use Rattle.std.proofs.Common.{rules, ap, ◌∙◌, append_assoc, codes, decimal}
 use Rattle.plai_terms.specs.Pieces.{behind_head, head_text}
-use Rattle.plai_terms.proofs.Pieces.{
-  head_text-Var,
-  head_text-Int,
-  head_text-Atom,
-  behind-Var,
-  behind-Int,
-  behind-Atom,
-  none_behind,
-  compound_behind,
-  compound_head,
-  written_head,
-  holds,
-}
+use Rattle.plai_terms.proofs.Pieces.{head_text-Var, head_text-Int, head_text-Atom, behind-Var, behind-Int, behind-Atom, none_behind, compound_behind}
+use Rattle.plai_terms.proofs.Pieces.{compound_head, written_head, holds}
 use Rattle.plai_terms.proofs.print.write_whole.Goals as goal
 
 pub returns-in-Var-clause-written : goal.returns-in-Var-clause-written

@@ -1,16 +1,7 @@
 use Rattle.std.proofs.Common.{refl, ap, Err}
 use Rattle.plai_base.specs.Causes.{Rose}
-use Rattle.plai_top.proofs.Deciding.{
-  as_program,
-  as_line,
-  stop_outcome,
-  line_outcome,
-  script_plan,
-  program_keeps_early,
-  program_unread,
-  line_keeps_early,
-  stop_keeps_early,
-}
+use Rattle.plai_top.proofs.Deciding.{as_program, as_line, stop_outcome, line_outcome, script_plan, program_keeps_early, program_unread, line_keeps_early}
+use Rattle.plai_top.proofs.Deciding.{stop_keeps_early}
 use Rattle.plai_top.proofs.Worked.{task_for}
 use Rattle.plai_top.proofs.plan.over_files.Goals as goal
 
