@@ -58,6 +58,10 @@ pub data IsEarly (words : List (List ℕ)) (files : TextMap) : Outcome → Type 
 abbrev pub longest_script : ℕ
 longest_script = 16777216
 
+-- the most reads of a script: each takes a byte, up to one more than it may have, or is the last
+abbrev pub most_reads : ℕ
+most_reads = 16777217
+
 -- what the script alone decides, behind a loaded program
 pub data IsByScript (script : List ℕ) : Outcome → Type 0 where
   script_too_long : longest_script < length script → IsByScript script (silent 4)

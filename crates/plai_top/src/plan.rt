@@ -1,11 +1,11 @@
 // What a call is to do: the words, the files, their loading, and the script.
-ghost use Rattle.std.specs.Prelude.{◌≡◌, ◌≤◌, ◌⊎◌, ℕ, List, None, IfSome, IfOk, IfErr, MatchResult, IsErrOf};
+ghost use Rattle.std.specs.Prelude.{◌≡◌, ◌+◌, ◌≤◌, ◌⊎◌, ℕ, List, None, IfSome, IfOk, IfErr, MatchResult, IsErrOf};
 ghost use Rattle.std.specs.Io.KnownBytes.{IsAtEnd};
 ghost use Rattle.plai_base.specs.Causes.{Rose};
 ghost use Rattle.plai_words.specs.Command.{settings_of, texts};
 ghost use Rattle.plai_top.specs.Commands.{AskForMade, IsCommand, IsFitCommand};
 ghost use Rattle.plai_top.specs.Loadings.{IsPrepared, HasLine};
-ghost use Rattle.plai_top.specs.Outcome.{Outcome, IsByWords, IsEarly, IsByScript, IsOutcome, silent};
+ghost use Rattle.plai_top.specs.Outcome.{Outcome, IsByWords, IsEarly, IsByScript, IsOutcome, most_reads, silent};
 ghost use Rattle.plai_top.specs.Outputs.{KeepsWords};
 ghost use Rattle.plai_top.specs.Plans.{IsPlan, IsMadeBy, IsMadePlan, IsFitPlan, IsPlanFor, HasTaskBy, HasAnalysis, IsScripted, IsInputStop};
 ghost use Rattle.plai_top.specs.Plans.{KeepsEarly, KeepsMade};
@@ -88,6 +88,7 @@ fn with_script<S: Source>(
     ensures end { IfOk result (λ plan. HasAnalysis plan → IsAtEnd (S.left script.new)) }
     ensures stop { IfErr result IsInputStop }
     ensures later { S.faults script.old ≤ S.faults script.new }
+    ensures reads { S.reads script.new ≤ S.reads script.old + most_reads }
     ensures failed { IsErrOf result Stop.ReadFault → Rose (S.faults script.old) (S.faults script.new) }
 {
     match read_edits(alloc, script) {
@@ -122,6 +123,7 @@ fn over_files<B: Library, S: Source>(
     ensures end { IfOk result (λ plan. HasAnalysis plan → IsAtEnd (S.left script.new)) }
     ensures library_later { B.faults library.old ≤ B.faults library.new }
     ensures script_later { S.faults script.old ≤ S.faults script.new }
+    ensures reads { S.reads script.new ≤ S.reads script.old + most_reads }
     ensures failed { IsErrOf result Stop.ReadFault → Rose (B.faults library.old) (B.faults library.new) ⊎ Rose (S.faults script.old) (S.faults script.new) }
 {
     match prepare(alloc, settings, library) {
@@ -188,6 +190,7 @@ pub fn planned<B: Library, S: Source>(
     ensures end { IfOk result (λ plan. HasAnalysis plan → IsAtEnd (S.left script.new) ⊎ AskForMade (texts words.now)) }
     ensures library_later { B.faults library.old ≤ B.faults library.new }
     ensures script_later { S.faults script.old ≤ S.faults script.new }
+    ensures reads { S.reads script.new ≤ S.reads script.old + most_reads }
     ensures failed { IsErrOf result Stop.ReadFault → Rose (B.faults library.old) (B.faults library.new) ⊎ Rose (S.faults script.old) (S.faults script.new) }
 
     // What isn't reached isn't read.

@@ -1,8 +1,8 @@
 // The script: its text, its tokens, and its edits.
-ghost use Rattle.std.specs.Prelude.{◌≡◌, ◌≤◌, ◌<◌, ◌⊎◌, length, IfOk, IfErr, IfSome, OnOk, IsErrOf};
+ghost use Rattle.std.specs.Prelude.{◌≡◌, ◌+◌, ◌≤◌, ◌<◌, ◌⊎◌, length, IfOk, IfErr, IfSome, OnOk, IsErrOf};
 ghost use Rattle.std.specs.Io.KnownBytes.{IsAtEnd};
 ghost use Rattle.plai_base.specs.Causes.{Rose};
-ghost use Rattle.plai_top.specs.Outcome.{IsByScript, longest_script, silent};
+ghost use Rattle.plai_top.specs.Outcome.{IsByScript, longest_script, most_reads, silent};
 ghost use Rattle.plai_top.specs.Plans.{IsInputStop};
 ghost use Rattle.plai_top.specs.Scripts.{IsScriptOf, HasScriptLine, HasReadableEdits};
 ghost use Rattle.plai_top.specs.Stops.{status_of, IsReadEnd};
@@ -32,6 +32,7 @@ fn read_text<S: Source>(alloc: Global, script: &mut S) -> Result<Vec<u8>, Stop>
     ensures end { OnOk result (IsAtEnd (S.left script.new)) }
     ensures stop { IfErr result (λ stop. IsReadEnd stop ⊎ ((stop ≡ Stop.TooLarge) × IfSome (S.left script.old) (λ text. longest_script < length text))) }
     ensures later { S.faults script.old ≤ S.faults script.new }
+    ensures reads { S.reads script.new ≤ S.reads script.old + most_reads }
     ensures failed { IsErrOf result Stop.ReadFault → Rose (S.faults script.old) (S.faults script.new) }
 {
     let mut text = Vec::new(alloc);
@@ -72,6 +73,7 @@ pub fn read_edits<S: Source>(alloc: Global, script: &mut S) -> Result<Script, St
     ensures stop { IfErr result (λ stop. IsReadEnd stop ⊎ IfSome (S.left script.old) (λ text. IsByScript text (silent (status_of stop)))) }
     ensures which { IfErr result IsInputStop }
     ensures later { S.faults script.old ≤ S.faults script.new }
+    ensures reads { S.reads script.new ≤ S.reads script.old + most_reads }
     ensures failed { IsErrOf result Stop.ReadFault → Rose (S.faults script.old) (S.faults script.new) }
 {
     match read_text(alloc, script) {

@@ -1,5 +1,5 @@
 // The whole program: all that is read, and then the blocks.
-ghost use Rattle.std.specs.Prelude.{◌≡◌, ◌≤◌, ◌⊎◌, ℕ, List, None, IfSome, IfOk, IfErr, IsErrOf};
+ghost use Rattle.std.specs.Prelude.{◌≡◌, ◌+◌, ◌≤◌, ◌⊎◌, ℕ, List, None, IfSome, IfOk, IfErr, IsErrOf};
 ghost use Rattle.std.specs.Io.KnownBytes.{Keeps, IsAtEnd};
 ghost use Rattle.plai_base.specs.Causes.{Rose};
 ghost use Rattle.plai_base.specs.Texts.{TextMap};
@@ -7,7 +7,7 @@ ghost use Rattle.plai_words.specs.Command.{settings_of, texts};
 ghost use Rattle.plai_top.specs.Commands.{AskForMade};
 ghost use Rattle.plai_top.specs.Ending.{IsFaultOrComes, EndsByEach, EndsWithin, EndsMade, EndsByWords, EndsEarly, IsSilent, IsBeforeWork, IsStatus, IsMadeStatus};
 ghost use Rattle.plai_top.specs.Headline.{TakesPromised};
-ghost use Rattle.plai_top.specs.Outcome.{Outcome, IsByWords, IsEarly, IsOutcome, OutcomeIsOne};
+ghost use Rattle.plai_top.specs.Outcome.{Outcome, IsByWords, IsEarly, IsOutcome, OutcomeIsOne, most_reads};
 ghost use Rattle.plai_top.specs.Plans.{IsFitPlan, HasAnalysis, CarriesOut, WorksPlan, IsPlanStatus, IsPlanStop};
 ghost use Rattle.plai_top.specs.Told.{IfBothTold};
 ghost use Rattle.plai_top.specs.Worked.{HasWorked};
@@ -137,7 +137,9 @@ pub fn run<B: Library, S: Source, K: Sink, W: Work, L: Ledger>(
     ensures unread_script { IfSome (B.files library.old) (λ files. (outcome : Outcome) → IsEarly (texts words.now) files outcome
         → (S.left script.new ≡ S.left script.old) × (S.faults script.new ≡ S.faults script.old)) }
 
-    // At 0 and 1 the script was read to its end, where no program is made, and at a status without output nothing was written.
+    // A script that counts its reads counts at most 16,777,217, one more than a script may have bytes. At 0 and 1 it was read to its
+    // end, where no program is made, and at a status without output nothing was written.
+    ensures reads { S.reads script.new ≤ S.reads script.old + most_reads }
     ensures end { (result ≡ 0) ⊎ (result ≡ 1) → IsAtEnd (S.left script.new) ⊎ AskForMade (texts words.now) }
     ensures nothing { IsSilent result → Keeps (K.taken sink.old) (K.taken sink.new) }
 
