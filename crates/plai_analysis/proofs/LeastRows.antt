@@ -44,7 +44,7 @@ use Rattle.plai_fix.proofs.Places.{found_at, has_some}
 use Rattle.plai_fix.proofs.Values.{kept_answers, answer_is_value, name_is_value, one_row}
 use Rattle.plai_analysis.specs.Solved.{IsSolved}
 use Rattle.plai_analysis.specs.Reached.{IsReached, First, Then, AreReached}
-use Rattle.plai_analysis.specs.Output.{plain_row, rows_at, IsFitRow, AreFit}
+use Rattle.plai_analysis.specs.Output.{plain_row, rows_at, IsFitRow, AreFit, IsPlainTable}
 use Rattle.plai_analysis.proofs.Needed.{kept_at, work_at, reached_needed, needed_reached, needed_reaches}
 
 -- a row of these numbers
@@ -260,33 +260,40 @@ module _ (p : PlainDomain) (laws : IsLawful p) (printed : IsPrinted p) (program 
               (row_of p row, in_map (row_of p) sorted row (in_permutation row (rows_at p k.rows numbers) sorted moved i), same);
         })
 
-    rows_narrow : All IsNarrow (rows_at p k.rows numbers)
+    pub rows_narrow : All IsNarrow (rows_at p k.rows numbers)
     rows_narrow =
         all_in IsNarrow (rows_at p k.rows numbers)
         (λ row i.
         let (n, j, kept, e, same) = in_rows p k.rows numbers row i in
         subst IsNarrow same (row_narrow n kept e (needed_at n (are.sound n j) kept e)))
 
+    -- Theorem: in order they are the least table, which has at most as many rows as the limit says.
+    pub plain_table : (sorted : List PlainRow) → IsPermutation (rows_at p k.rows numbers) sorted
+        → (AreApart (rows_at p k.rows numbers) → AreInOrder sorted) → IsPlainTable p program limit sorted
+    plain_table sorted moved in_order =
+        let is : IsLeastTable p program sorted = least sorted moved (in_order (apart numbers are.distinct are.sound)) in
+        let long : length (map (row_of p) sorted) ≡ length sorted = length_map (row_of p) sorted in
+        let few =
+        end_within (as_domain p) (as_program p program) theory_laws (before p) (strict p) (map (row_of p) sorted) is limit (no_work (as_domain p))
+        (empty (as_domain p) (as_program p program) theory_laws) tt
+        zero-le s.log s.logged.legal s.end in
+        record {
+          least = is;
+          narrow = All-permutation IsNarrow (rows_at p k.rows numbers) sorted moved rows_narrow;
+          within = omega (arith, long, few);
+        }
+
     -- Theorem: their texts in order are those of the least table, and verdicts don't depend on the order.
     pub text_table : (table : TextTable) → AreTextsInOrder (rows_at p k.rows numbers) table.rows
         → ((sorted : List PlainRow) → IsPermutation (rows_at p k.rows numbers) sorted → table.verdicts ≡ verdicts_of p sorted program.checks)
         → IsTextTable p program limit table
     text_table table sorted told =
-        let is_least : IsLeastTable p program sorted.rows = least sorted.rows sorted.permutation (sorted.in_order (apart numbers are.distinct are.sound)) in
+        let plain : IsPlainTable p program limit sorted.rows = plain_table sorted.rows sorted.permutation sorted.in_order in
         record {
           rows = sorted.rows;
-          least = is_least;
-          narrow = All-permutation IsNarrow (rows_at p k.rows numbers) sorted.rows sorted.permutation rows_narrow;
-          within = within sorted.rows is_least;
+          least = plain.least;
+          narrow = plain.narrow;
+          within = plain.within;
           are_texts = sorted.are_texts;
           are_verdicts = told sorted.rows sorted.permutation;
         }
-      where
-        within : (sorted : List PlainRow) → IsLeastTable p program sorted → length sorted ≤ limit
-        within sorted is =
-            let long : length (map (row_of p) sorted) ≡ length sorted = length_map (row_of p) sorted in
-            let few =
-            end_within (as_domain p) (as_program p program) theory_laws (before p) (strict p) (map (row_of p) sorted) is limit (no_work (as_domain p))
-            (empty (as_domain p) (as_program p program) theory_laws) tt
-            zero-le s.log s.logged.legal s.end in
-            omega (arith, long, few)

@@ -1,14 +1,17 @@
 -- Rows that a table keeps as rows of patterns (Muthukumar and Hermenegildo 1992).
-use Rattle.std.specs.Prelude.{◌≡◌, ℕ, ◌≤◌, List, [], ◌∷◌, Some, unwrap_or}
+use Rattle.std.specs.Prelude.{◌≡◌, ℕ, ◌≤◌, All, List, [], ◌∷◌, length, Some, unwrap_or}
 use Rattle.plai_theory.specs.Words.{IsIn, HasSome, given, item}
 use Rattle.plai_terms.specs.declared.abs.Abs.{Abs}
 use Rattle.plai_terms.specs.declared.abs.Abs.TheVariants.{Nothing}
 use Rattle.plai_terms.specs.declared.plain_row.PlainRow.{PlainRow}
 use Rattle.plai_domain.specs.Plain.{PlainDomain}
 use Rattle.plai_domain.specs.Conditions.{most_arguments, IsValue}
+use Rattle.plai_clauses.specs.Program.{ProgramView}
 use Rattle.plai_assert.specs.declared.row.Row.{Row}
 use Rattle.plai_assert.specs.Rows.{IsFit}
 use Rattle.plai_eval.specs.Meaning.{row_name, as_domain}
+use Rattle.plai_eval.specs.LeastTable.{IsLeastTable}
+use Rattle.plai_render.specs.Order.{IsNarrow}
 use Rattle.plai_fix.specs.WorkStates.{KeptRow}
 
 -- `Nothing` stands for no answer
@@ -32,3 +35,9 @@ AreFit p kept numbers = (n : ℕ) → IsIn n numbers → HasSome (IsFitRow p) (i
 -- the same of a row over a domain's own values
 abbrev pub IsShown : {V : Type 0} → (V → Abs) → PlainDomain → Row V → Type 0
 IsShown value_of p row = (row.name.now.pred.arity ≤ most_arguments) × IsFit value_of p row
+
+-- the rows of the least table, in order, at most as many as the limit says
+pub record IsPlainTable (p : PlainDomain) (program : ProgramView) (limit : ℕ) (rows : List PlainRow) : Type 0 where
+  pub least : IsLeastTable p program rows
+  pub narrow : All IsNarrow rows
+  pub within : length rows ≤ limit

@@ -4,15 +4,16 @@ ghost use Rattle.plai_eval.specs.Stops.{IsOver};
 ghost use Rattle.plai_rounds.specs.Causes.{HasCause};
 ghost use Rattle.plai_rounds.specs.Table.{IsTextTable};
 ghost use Rattle.plai_analysis.specs.Fails.{fail_of};
+ghost use Rattle.plai_analysis.specs.Solved.{IsSolvedWork};
 ghost use Rattle.plai_analysis.specs.Work.{HasEnded, HasStopped};
 
+use crate::analysed::Analysed;
 use crate::table::table_of_work;
 use plai_arcs::Arcs;
 use plai_base::Steps;
 use plai_clauses::Program;
 use plai_domain::{Domain, Work};
 use plai_fix::{SolveFail, solve};
-use plai_render::TextTable;
 use plai_rounds::AnalyseFail;
 use plai_table::Table;
 use std::alloc::Global;
@@ -41,7 +42,7 @@ fn fail_of(fail: SolveFail) -> AnalyseFail
 
 /// The least table of the program under the domain, as text, in the order of a table, and what it says of the program's
 /// assertions: by work that begins with no rows and takes what is dirty, the newest row first (Hermenegildo, Puebla, Marriott
-/// and Stuckey 2000).
+/// and Stuckey 2000). The rows that the work made are handed out with it, and what their clauses call.
 ///
 /// `Rows` names the limit, and comes only where more names than the limit are asked for, each at or below a name of the least
 /// table of the same predicate; so a table has at most as many rows as the limit says. `Groups` comes only where an evaluation
@@ -57,8 +58,9 @@ pub fn analyse<D: Domain, W: Work, L: Ledger>(
     limit: u64,
     work: &mut W,
     steps: &mut Steps<L>,
-) -> Result<TextTable, AnalyseFail>
-    ensures table { IfOk result (IsTextTable (D.plain domain.now) program.now limit) }
+) -> Result<Analysed<D::Value>, AnalyseFail>
+    ensures table { IfOk result (λ analysed. IsTextTable (D.plain domain.now) program.now limit analysed.texts) }
+    ensures solved { IfOk result (λ analysed. IsSolvedWork D.value_of (D.plain domain.now) program.now limit analysed.table.rows analysed.arcs) }
     ensures not_over { OnOk result (¬ IsOver (D.plain domain.now) program.now) }
     ensures causes { IfErr result (HasCause (D.plain domain.now) program.now limit) }
     ensures work { OnOk result (HasEnded (D.plain domain.now) program.now limit (W.entries work.old) (W.entries work.new) (steps.new - steps.old)) }
@@ -72,6 +74,6 @@ pub fn analyse<D: Domain, W: Work, L: Ledger>(
     ) {
         return Err(fail_of(fail));
     }
-    let found = table_of_work(alloc, domain, program, &table, &arcs, limit)?;
-    Ok(found)
+    let texts = table_of_work(alloc, domain, program, &table, &arcs, limit)?;
+    Ok(Analysed { texts, table, arcs })
 }

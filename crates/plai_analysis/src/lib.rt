@@ -2,10 +2,13 @@
 //! calls reach from the entries are the least table.
 #![tactic(auto)]
 
+mod analysed;
 mod analysis;
+mod patterns;
 mod reach;
 mod rows;
 mod table;
 
+pub use analysed::Analysed;
 pub use analysis::analyse;
-pub use table::table_of_work;
+pub use table::{rows_of_work, table_of_work};

@@ -1,18 +1,17 @@
 //! What work that has ended tells.
 ghost use Rattle.std.specs.Prelude.{IfOk};
-ghost use Rattle.plai_eval.specs.Meaning.{as_domain, as_program, as_limits};
-ghost use Rattle.plai_fix.specs.Tables.{state_of};
 ghost use Rattle.plai_rounds.specs.Table.{IsTextTable};
-ghost use Rattle.plai_analysis.specs.Solved.{IsSolved};
-ghost use Rattle.plai_analysis.specs.Reached.{entry_at};
+ghost use Rattle.plai_analysis.specs.Solved.{IsSolvedWork};
+ghost use Rattle.plai_analysis.specs.Output.{IsPlainTable};
 
+use crate::patterns::plain_rows;
 use crate::reach::reached_rows;
 use crate::rows::{numbered_rows, text_rows};
 use plai_arcs::Arcs;
 use plai_assert::{verdicts, verdicts_need_no_order};
 use plai_clauses::Program;
 use plai_domain::Domain;
-use plai_render::{TextTable, sort_texts};
+use plai_render::{PlainRow, TextTable, sort_rows, sort_texts};
 use plai_table::Table;
 use plai_terms::Listed;
 use std::alloc::{AllocError, Global};
@@ -27,8 +26,7 @@ pub fn table_of_work<D: Domain>(
     arcs: &Arcs,
     _limit: u64,
 ) -> Result<TextTable, AllocError>
-    requires { IsSolved (as_domain (D.plain domain.now)) (as_program (D.plain domain.now) program.now) (as_limits (D.plain domain.now)) _limit
-        (state_of D.value_of (D.plain domain.now) table.now.rows arcs.now) (entry_at table.now.rows) }
+    requires { IsSolvedWork D.value_of (D.plain domain.now) program.now _limit table.now.rows arcs.now }
     ensures { IfOk result (IsTextTable (D.plain domain.now) program.now _limit) }
 {
     program.is_program();
@@ -42,4 +40,24 @@ pub fn table_of_work<D: Domain>(
         rows: Listed::new(texts),
         verdicts: Listed::new(found),
     })
+}
+
+/// The rows of that table as patterns, in its order.
+pub fn rows_of_work<D: Domain>(
+    alloc: Global,
+    domain: &D,
+    program: &Program,
+    table: &Table<D::Value>,
+    arcs: &Arcs,
+    _limit: u64,
+) -> Result<Vec<PlainRow>, AllocError>
+    requires { IsSolvedWork D.value_of (D.plain domain.now) program.now _limit table.now.rows arcs.now }
+    ensures { IfOk result (λ rows. IsPlainTable (D.plain domain.now) program.now _limit rows.items) }
+{
+    program.is_program();
+    let numbers = reached_rows(alloc, program, table, arcs)?;
+    let rows = numbered_rows(alloc, domain, table, numbers.as_slice())?;
+    let mut patterns = plain_rows(alloc, domain, rows.as_slice())?;
+    sort_rows(alloc, &mut patterns)?;
+    Ok(patterns)
 }

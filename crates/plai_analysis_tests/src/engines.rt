@@ -38,7 +38,8 @@ fn work_counted<D: Domain, W: Work, L: Ledger>(
     requires some { 0 < blank.parts }
 {
     let mut steps = Steps::<L>::new(blank);
-    plai_analysis::analyse(alloc, domain, program, limit, work, &mut steps)
+    let analysed = plai_analysis::analyse(alloc, domain, program, limit, work, &mut steps)?;
+    Ok(analysed.texts)
 }
 
 /// By legal work, of which this object is told.

@@ -1,12 +1,21 @@
 -- A session: a program under edits, and its table (Hermenegildo, Puebla, Marriott and Stuckey 2000).
-use Rattle.std.specs.Prelude.{◌≡◌, ℕ, Bool, true, false, Option, None, Some, Result, Ok, Err, IfSome}
+use Rattle.std.specs.Prelude.{◌≡◌, ◌≤◌, ℕ, Bool, true, false, All, List, length, Option, None, Some, Result, Ok, Err, IfSome}
+use Rattle.std.specs.Option.{option_map}
+use Rattle.plai_terms.specs.declared.abs.Abs.{Abs}
+use Rattle.plai_terms.specs.declared.plain_row.PlainRow.{PlainRow}
 use Rattle.plai_domain.specs.Plain.{PlainDomain}
 use Rattle.plai_clauses.specs.Program.{ProgramView}
 use Rattle.plai_clauses.specs.declared.edit_cause.EditCause.{EditCause}
+use Rattle.plai_assert.specs.Verdicts.{verdicts_of}
+use Rattle.plai_eval.specs.LeastTable.{IsLeastTable}
 use Rattle.plai_eval.specs.Stops.{IsOver}
 use Rattle.plai_render.specs.declared.text_table.TextTable.{TextTable}
+use Rattle.plai_render.specs.Order.{IsNarrow}
+use Rattle.plai_render.specs.Texts.{AreTextsOf}
 use Rattle.plai_rounds.specs.Causes.{AreTooMany, IsOverThere}
 use Rattle.plai_rounds.specs.Table.{IsTextTable}
+use Rattle.plai_analysis.specs.declared.analysed.Analysed.{Analysed}
+use Rattle.plai_analysis.specs.Solved.{IsSolvedWork}
 use Rattle.plai_session.specs.declared.answer.EditAnswer.{EditAnswer}
 use Rattle.plai_session.specs.declared.answer.EditAnswer.TheVariants.{Table, Refused, StoppedRows, StoppedGroups}
 
@@ -25,10 +34,31 @@ pub record IsTableOf (p : PlainDomain) (limit : ℕ) (program : ProgramView) (ta
   pub least : IsTextTable p program limit table
   pub not_over : IsOver p program → ⊥
 
--- what a session keeps: a table that is there is the program's, and there is none after want of memory
-pub record IsKept (p : PlainDomain) (limit : ℕ) (program : ProgramView) (table : Option TextTable) (lost : Bool) : Type 0 where
-  pub own : IfSome table (IsTableOf p limit program)
-  pub none_if_lost : lost ≡ true → table ≡ None
+-- the rows behind the texts of a table: those of the program's least table, in order, of whose assertions the table has the
+-- verdicts
+pub record AreRowsOf (p : PlainDomain) (limit : ℕ) (program : ProgramView) (table : TextTable) (rows : List PlainRow) : Type 0 where
+  pub least : IsLeastTable p program rows
+  pub narrow : All IsNarrow rows
+  pub within : length rows ≤ limit
+  pub are_texts : AreTextsOf rows table.rows
+  pub are_verdicts : table.verdicts ≡ verdicts_of p rows program.checks
+
+-- rows are given exactly where there is a table, and are those behind it
+abbrev pub AreRowsGiven : PlainDomain → ℕ → ProgramView → Option TextTable → Option (List PlainRow) → Type 0
+AreRowsGiven p limit program table None = table ≡ None
+AreRowsGiven p limit program table (Some rows) = (own : TextTable) × (table ≡ Some own) × AreRowsOf p limit program own rows
+
+-- the table of an analysis that has one
+abbrev pub texts_in : {V : Type 0} → Option (Analysed V) → Option TextTable
+texts_in analysed = option_map (λ a. a.texts) analysed
+
+-- what a session keeps: a table that is there is the program's, and behind it stands work that has ended; there is none after
+-- want of memory
+pub record IsKept {V : Type 0} (value_of : V → Abs) (p : PlainDomain) (limit : ℕ) (program : ProgramView) (analysed : Option (Analysed V)) (lost : Bool)
+    : Type 0 where
+  pub own : IfSome analysed (λ a. IsTableOf p limit program a.texts)
+  pub worked : IfSome analysed (λ a. IsSolvedWork value_of p program limit a.table.rows a.arcs)
+  pub none_if_lost : lost ≡ true → analysed ≡ None
 
 -- what the analysis of a program gives: its table, or none and a stop by its cause
 abbrev pub IsAnalysed : PlainDomain → ℕ → ProgramView → Option TextTable → EditAnswer → Type 0

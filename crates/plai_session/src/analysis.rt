@@ -1,22 +1,23 @@
 //! The analysis of the program behind an edit.
-ghost use Rattle.std.specs.Prelude.{◌-◌, IfOk, OnErr};
-ghost use Rattle.plai_session.specs.Sessions.{IsAnalysed};
+ghost use Rattle.std.specs.Prelude.{◌-◌, IfOk, IfSome, OnErr};
+ghost use Rattle.plai_analysis.specs.Solved.{IsSolvedWork};
+ghost use Rattle.plai_session.specs.Sessions.{IsAnalysed, texts_in};
 ghost use Rattle.plai_session.specs.Work.{IsWorkOf, IsCutOff};
 
 use crate::answer::EditAnswer;
-use plai_analysis::analyse;
+use plai_analysis::{Analysed, analyse};
 use plai_base::Steps;
 use plai_clauses::Program;
 use plai_domain::{Domain, Work, WorkEntry};
-use plai_render::TextTable;
 use plai_rounds::AnalyseFail;
 use std::alloc::{AllocError, Global};
+use std::hash::Hash;
 use std::sync::ledger::Ledger;
 
-/// What an analysis gave: the table as text, if there is one, and the answer.
-#[derive(Debug, Drop)]
-pub struct Analysed {
-    pub table: Option<TextTable>,
+/// What an edit's analysis gave: the table with the work behind it, if there is one, and the answer.
+#[derive(Drop)]
+pub struct Answered<V: Eq + Hash + Drop> {
+    pub analysed: Option<Analysed<V>>,
     pub answer: EditAnswer,
 }
 
@@ -30,19 +31,20 @@ pub fn analyse_anew<D: Domain, W: Work, L: Ledger>(
     number: u64,
     work: &mut W,
     steps: &mut Steps<L>,
-) -> Result<Analysed, AllocError>
-    ensures answer { IfOk result (λ analysed. IsAnalysed (D.plain domain.now) limit program.now analysed.table analysed.answer) }
-    ensures work { IfOk result (λ analysed. IsWorkOf (D.plain domain.now) limit program.now number (W.entries work.old) (W.entries work.new) (steps.new - steps.old) analysed.answer) }
+) -> Result<Answered<D::Value>, AllocError>
+    ensures answer { IfOk result (λ answered. IsAnalysed (D.plain domain.now) limit program.now (texts_in answered.analysed) answered.answer) }
+    ensures worked { IfOk result (λ answered. IfSome answered.analysed (λ a. IsSolvedWork D.value_of (D.plain domain.now) program.now limit a.table.rows a.arcs)) }
+    ensures work { IfOk result (λ answered. IsWorkOf (D.plain domain.now) limit program.now number (W.entries work.old) (W.entries work.new) (steps.new - steps.old) answered.answer) }
     ensures cut_off { OnErr result (IsCutOff (D.plain domain.now) limit program.now number (W.entries work.old) (W.entries work.new)) }
 {
     work.note(alloc, &WorkEntry::Mark(number))?;
     match analyse(alloc, domain, program, limit, work, steps) {
-        Ok(table) => Ok(Analysed {
-            table: Some(table),
+        Ok(analysed) => Ok(Answered {
+            analysed: Some(analysed),
             answer: EditAnswer::Table,
         }),
-        Err(AnalyseFail::Rows(most)) => Ok(Analysed {
-            table: None,
+        Err(AnalyseFail::Rows(most)) => Ok(Answered {
+            analysed: None,
             answer: EditAnswer::StoppedRows(most),
         }),
         Err(
@@ -52,8 +54,8 @@ pub fn analyse_anew<D: Domain, W: Work, L: Ledger>(
                 literal,
                 place,
             },
-        ) => Ok(Analysed {
-            table: None,
+        ) => Ok(Answered {
+            analysed: None,
             answer: EditAnswer::StoppedGroups {
                 row,
                 clause,

@@ -1,17 +1,22 @@
 //! Sessions.
-ghost use Rattle.std.specs.Prelude.{◌≡◌, ◌⊎◌, ◌-◌, true, false, Ok, IfOk, IfSome, OnOk, OnErr, option_map};
+ghost use Rattle.std.specs.Prelude.{◌≡◌, ◌⊎◌, ◌-◌, true, false, Ok, List, IfOk, IfSome, OnOk, OnErr, option_map};
+ghost use Rattle.plai_terms.specs.declared.plain_row.PlainRow.{PlainRow};
 ghost use Rattle.plai_clauses.specs.Program.{ProgramView};
+ghost use Rattle.plai_assert.specs.Verdicts.{verdicts_of};
+ghost use Rattle.plai_eval.specs.LeastTable.{IsLeastTable};
 ghost use Rattle.plai_script.specs.Edits.{edited};
 ghost use Rattle.plai_script.specs.Readable.{IsReadableEdit};
 ghost use Rattle.plai_session.specs.Work.{IsWorkOf, IsCutOff};
-ghost use Rattle.plai_session.specs.Sessions.{IsTableOf, IsAnalysed, IsEdited, IsLost, IsRefusal};
+ghost use Rattle.plai_session.specs.Sessions.{IsTableOf, AreRowsGiven, IsAnalysed, IsEdited, IsLost, IsRefusal};
 
-use crate::analysis::{Analysed, analyse_anew};
+use crate::analysis::{Answered, analyse_anew};
 use crate::answer::EditAnswer;
+use plai_analysis::{Analysed, rows_of_work};
+use plai_assert::Verdict;
 use plai_base::Steps;
 use plai_clauses::Program;
 use plai_domain::{Domain, Work};
-use plai_render::TextTable;
+use plai_render::{PlainRow, TextTable};
 use plai_script::{Edit, EditFail, apply};
 use std::alloc::{AllocError, Global};
 use std::marker::Model;
@@ -24,21 +29,21 @@ pub struct Session<D: Domain> {
     domain: D,
     limit: u64,
     program: Program,
-    table: Option<TextTable>,
+    analysed: Option<Analysed<D::Value>>,
     lost: bool,
 }
 
 impl<D: Domain> Model for Session<D> {
     ghost use Rattle.plai_session.specs.Codes.{session_code};
-    ghost use Rattle.plai_session.specs.Sessions.{SessionView, IsKept};
+    ghost use Rattle.plai_session.specs.Sessions.{SessionView, IsKept, texts_in};
 
     ghost Value = { SessionView D };
 
     ghost coded = { session_code D.code };
 
-    ghost view = { λ s. record { domain = s.domain; limit = s.limit; program = s.program; table = s.table; lost = s.lost } };
+    ghost view = { λ s. record { domain = s.domain; limit = s.limit; program = s.program; table = texts_in s.analysed; lost = s.lost } };
 
-    ghost invariant = { λ s. IsKept (D.plain s.domain) s.limit s.program s.table s.lost };
+    ghost invariant = { λ s. IsKept D.value_of (D.plain s.domain) s.limit s.program s.analysed s.lost };
 }
 
 impl<D: Domain> Session<D> {
@@ -57,14 +62,14 @@ impl<D: Domain> Session<D> {
         ensures work { IfOk result (λ opened. IsWorkOf (D.plain domain) limit program 0 (W.entries work.old) (W.entries work.new) (steps.new - steps.old) opened.1) }
         ensures cut_off { OnErr result (IsCutOff (D.plain domain) limit program 0 (W.entries work.old) (W.entries work.new)) }
     {
-        let Analysed { table, answer } = analyse_anew(
+        let Answered { analysed, answer } = analyse_anew(
             alloc, &domain, &program, limit, 0, work, steps,
         )?;
         let session = Session {
             domain,
             limit,
             program,
-            table,
+            analysed,
             lost: false,
         };
         Ok((session, answer))
@@ -134,9 +139,9 @@ impl<D: Domain> Session<D> {
             work,
             steps,
         ) {
-            Ok(Analysed { table, answer }) => {
+            Ok(Answered { analysed, answer }) => {
                 self.program = program;
-                self.table = table;
+                self.analysed = analysed;
                 Ok(answer)
             }
             Err(_) => {
@@ -150,7 +155,7 @@ impl<D: Domain> Session<D> {
     fn lose(&mut self)
         ensures { IsLost self.old self.new }
     {
-        self.table = None;
+        self.analysed = None;
         self.lost = true;
     }
 
@@ -168,6 +173,46 @@ impl<D: Domain> Session<D> {
         ensures table { option_map (λ table. table.now) result ≡ self.now.table }
         ensures least { IfSome result (λ table. IsTableOf (D.plain self.now.domain) self.now.limit self.now.program table.now) }
     {
-        self.table.as_ref()
+        match &self.analysed {
+            Some(analysed) => Some(&analysed.texts),
+            None => None,
+        }
+    }
+
+    /// The rows of the program's least table as patterns, in the order of a table: those whose texts [`Session::table`] gives.
+    /// None exactly where there is no table. The patterns are made when they are asked for.
+    pub fn rows(&self, alloc: Global) -> Result<Option<Vec<PlainRow>>, AllocError>
+        ensures { IfOk result (λ found. AreRowsGiven (D.plain self.now.domain) self.now.limit self.now.program self.now.table (option_map (λ rows. rows.items) found)) }
+    {
+        match &self.analysed {
+            Some(analysed) => {
+                let rows = rows_of_work(
+                    alloc,
+                    &self.domain,
+                    &self.program,
+                    &analysed.table,
+                    &analysed.arcs,
+                    self.limit,
+                )?;
+                Ok(Some(rows))
+            }
+            None => Ok(None),
+        }
+    }
+
+    /// What the rows of the program's least table say of its assertions: a verdict for each, in the order of
+    /// [`Program::checks`]. None exactly where there is no table.
+    pub fn verdicts(&self, alloc: Global) -> Result<Option<Vec<Verdict>>, AllocError>
+        ensures table { IfOk result (λ found. option_map (λ verdicts. verdicts.items) found ≡ option_map (λ table. table.verdicts) self.now.table) }
+        ensures said { IfOk result (λ found. IfSome found (λ verdicts. (rows : List PlainRow) → IsLeastTable (D.plain self.now.domain) self.now.program rows
+            → verdicts.items ≡ verdicts_of (D.plain self.now.domain) rows self.now.program.checks)) }
+    {
+        match &self.analysed {
+            Some(analysed) => {
+                let verdicts = Vec::from_slice(alloc, analysed.texts.verdicts.as_slice())?;
+                Ok(Some(verdicts))
+            }
+            None => Ok(None),
+        }
     }
 }

@@ -20,6 +20,13 @@ table_of_work-requires g c =
     (g.W.Work.entries c.solve.new.work) g.D.Domain.value_of c.solve.new.table.rows (c.solve.new.steps - c.args.steps.now)
     (state_of g.D.Domain.value_of p c.solve.new.table.rows c.solve.new.arcs) refl c.in_default.ensures.solved c.in_default.ensures.marked
 
+pub returns-clause-solved : goal.returns-clause-solved
+returns-clause-solved g c =
+    let p = g.D.Domain.plain c.args.domain.now in
+    solved p (g.met.D.Domain.lawful c.args.domain.now) c.args.program.now c.is_program.ensures.well_formed c.args.limit (g.W.Work.entries c.args.work.now)
+    (g.W.Work.entries c.solve.new.work) g.D.Domain.value_of c.solve.new.table.rows (c.solve.new.steps - c.args.steps.now)
+    (state_of g.D.Domain.value_of p c.solve.new.table.rows c.solve.new.arcs) refl c.in_default.ensures.solved c.in_default.ensures.marked
+
 pub returns-clause-not_over : goal.returns-clause-not_over
 returns-clause-not_over g c =
     let p = g.D.Domain.plain c.args.domain.now in
