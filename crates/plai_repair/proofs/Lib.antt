@@ -11,3 +11,4 @@ pub mod Opens
 pub mod Gains
 pub mod Slept
 pub mod Cut
+pub mod Reaches

@@ -1,37 +1,52 @@
--- Rows that are made dormant, one after another.
-use Rattle.std.proofs.Common.{◌≡◌, ℕ, zero, suc, ◌≤◌, false, List, [], ◌∷◌, map, length, slice_get, Some, sym, refl, ap, arith}
-use Rattle.plai_table.specs.Rows.{TableRow, row_changed, with_live, with_entry}
+-- Rows that are made dormant or live, one after another.
+use Rattle.std.proofs.Common.{◌≡◌, ℕ, zero, suc, ◌+◌, ◌<◌, ◌≤◌, false, List, [], ◌∷◌, map, length, slice_get, Some, sym, refl, ap, ◌∙◌, arith}
+use Rattle.plai_table.specs.Rows.{TableRow, row_changed}
 use Rattle.plai_repair.specs.Opened.{slept, AreAsleep}
 
 module _ {V : Type 0} where
-  -- the first rows are dormant
-  abbrev pub slept_to : ℕ → List (TableRow V) → List (TableRow V)
-  slept_to zero rows = rows
-  slept_to (suc n) [] = []
-  slept_to (suc n) (r ∷ rows) = slept r ∷ slept_to n rows
+  -- the first rows are changed
+  abbrev pub changed_to : (TableRow V → TableRow V) → ℕ → List (TableRow V) → List (TableRow V)
+  changed_to f zero rows = rows
+  changed_to f (suc n) [] = []
+  changed_to f (suc n) (r ∷ rows) = f r ∷ changed_to f n rows
 
-  pub slept_more : (rows : List (TableRow V)) (n : ℕ)
-      → row_changed (with_entry false) (row_changed (with_live false) (slept_to n rows) n) n ≡ slept_to (suc n) rows
-  slept_more [] zero = refl
-  slept_more [] (suc n) = refl
-  slept_more (r ∷ rows) zero = refl
-  slept_more (r ∷ rows) (suc n) = ap (λ (rest : List (TableRow V)). slept r ∷ rest) (slept_more rows n)
+  pub changed_more : (f : TableRow V → TableRow V) (rows : List (TableRow V)) (n : ℕ) → row_changed f (changed_to f n rows) n ≡ changed_to f (n + 1) rows
+  changed_more f rows n = at rows n ∙ ap (λ m. changed_to f m rows) (let e : suc n ≡ n + 1 = omega arith in e)
+    where
+      at : (rows : List (TableRow V)) (n : ℕ) → row_changed f (changed_to f n rows) n ≡ changed_to f (suc n) rows
+      at [] zero = refl
+      at [] (suc n) = refl
+      at (r ∷ rows) zero = refl
+      at (r ∷ rows) (suc n) = ap (λ (rest : List (TableRow V)). f r ∷ rest) (at rows n)
 
-  pub slept_all : (rows : List (TableRow V)) (n : ℕ) → length rows ≤ n → slept_to n rows ≡ map slept rows
-  slept_all [] zero h = refl
-  slept_all [] (suc n) h = refl
-  slept_all (r ∷ rows) zero h = absurd (omega (arith, h))
-  slept_all (r ∷ rows) (suc n) h = ap (λ (rest : List (TableRow V)). slept r ∷ rest) (slept_all rows n (omega (arith, h)))
+  pub changed_twice : (f g : TableRow V → TableRow V) (rows : List (TableRow V)) (n : ℕ)
+      → row_changed g (row_changed f rows n) n ≡ row_changed (λ r. g (f r)) rows n
+  changed_twice f g [] n = refl
+  changed_twice f g (r ∷ rows) zero = refl
+  changed_twice f g (r ∷ rows) (suc n) = ap (λ (rest : List (TableRow V)). r ∷ rest) (changed_twice f g rows n)
 
-  pub slept_long : (rows : List (TableRow V)) (n : ℕ) → length (slept_to n rows) ≡ length rows
-  slept_long rows zero = refl
-  slept_long [] (suc n) = refl
-  slept_long (r ∷ rows) (suc n) = ap suc (slept_long rows n)
+  pub changed_all : (f : TableRow V → TableRow V) (rows : List (TableRow V)) (n : ℕ) → length rows ≤ n → changed_to f n rows ≡ map f rows
+  changed_all f [] zero h = refl
+  changed_all f [] (suc n) h = refl
+  changed_all f (r ∷ rows) zero h = absurd (omega (arith, h))
+  changed_all f (r ∷ rows) (suc n) h = ap (λ (rest : List (TableRow V)). f r ∷ rest) (changed_all f rows n (omega (arith, h)))
 
-  pub changed_long : (f : TableRow V → TableRow V) (rows : List (TableRow V)) (n : ℕ) → length (row_changed f rows n) ≡ length rows
-  changed_long f [] n = refl
-  changed_long f (r ∷ rows) zero = refl
-  changed_long f (r ∷ rows) (suc n) = ap suc (changed_long f rows n)
+  long_to : (f : TableRow V → TableRow V) (rows : List (TableRow V)) (n : ℕ) → length (changed_to f n rows) ≡ length rows
+  long_to f rows zero = refl
+  long_to f [] (suc n) = refl
+  long_to f (r ∷ rows) (suc n) = ap suc (long_to f rows n)
+
+  long_changed : (f : TableRow V → TableRow V) (rows : List (TableRow V)) (n : ℕ) → length (row_changed f rows n) ≡ length rows
+  long_changed f [] n = refl
+  long_changed f (r ∷ rows) zero = refl
+  long_changed f (r ∷ rows) (suc n) = ap suc (long_changed f rows n)
+
+  -- the next row is there
+  pub next_within : (f : TableRow V → TableRow V) (rows now : List (TableRow V)) (n : ℕ) → now ≡ changed_to f n rows → n < length rows → n < length now
+  next_within f rows now n e h = let l = ap length e in let k = long_to f rows n in omega (arith, l, k, h)
+
+  pub still_within : (f : TableRow V → TableRow V) (rows now : List (TableRow V)) (n : ℕ) → now ≡ row_changed f rows n → n < length rows → n < length now
+  still_within f rows now n e h = let l = ap length e in let k = long_changed f rows n in omega (arith, l, k, h)
 
   pub all_asleep : (rows : List (TableRow V)) → AreAsleep (map slept rows)
   all_asleep rows = record { dormant = λ n r e. (is rows n r e).0; unmarked = λ n r e. (is rows n r e).1 }

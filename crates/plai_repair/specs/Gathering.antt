@@ -1,5 +1,5 @@
 -- Rows that are gathered in turn: a list of numbers, and a mark for each row that is in it.
-use Rattle.std.specs.Prelude.{◌≡◌, ◌↔◌, ◌⊎◌, ℕ, ◌<◌, Bool, true, false, count_by, List, length, get_or, slice_get, Some}
+use Rattle.std.specs.Prelude.{◌≡◌, ◌↔◌, ◌⊎◌, ℕ, ◌<◌, ◌≤◌, Bool, true, false, count_by, List, length, get_or, slice_get, Some}
 use Rattle.plai_theory.specs.Words.{IsIn, AreDistinct, item}
 use Rattle.plai_repair.specs.Lost.{IsLost}
 
@@ -20,6 +20,18 @@ pub record Gathers (comes : ℕ → Type 0) (marks : List Bool) (rows : List ℕ
 -- a row of one of the first pairs of a row and a clause
 abbrev pub IsRowOf : List (ℕ × ℕ) → ℕ → ℕ → Type 0
 IsRowOf pairs count j = (k : ℕ) × (c : ℕ) × (k < count) × (slice_get pairs k ≡ Some (j, c))
+
+-- one of the first rows of a list
+abbrev pub IsAmong : List ℕ → ℕ → ℕ → Type 0
+IsAmong rows count j = (k : ℕ) × (k < count) × (slice_get rows k ≡ Some j)
+
+-- a row that a clause from 1 to the last calls
+abbrev pub IsCalledTo : (ℕ → ℕ → Bool) → ℕ → ℕ → Type 0
+IsCalledTo calls last j = (c : ℕ) × (1 ≤ c) × (c ≤ last) × (calls c j ≡ true)
+
+-- calls from the called row to its caller
+abbrev pub turned : (ℕ → ℕ → ℕ → Bool) → ℕ → ℕ → ℕ → Bool
+turned calls n c j = calls j c n
 
 -- The first rows are gathered, and the callers of the first of the gathered rows; all that is gathered is lost.
 pub record Spreads (loses : ℕ → Type 0) (calls : ℕ → ℕ → ℕ → Bool) (size index : ℕ) (marks : List Bool) (rows : List ℕ) : Type 0 where

@@ -4,3 +4,4 @@ pub mod Removal
 pub mod Gained
 pub mod Whole
 pub mod Opened
+pub mod Reached

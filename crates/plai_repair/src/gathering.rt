@@ -14,13 +14,13 @@ use std::hash::Hash;
 
 /// Rows that are gathered, and a mark for each row that is.
 #[derive(Drop)]
-struct Gathered {
-    marks: Vec<bool>,
-    rows: Vec<u64>,
+pub(crate) struct Gathered {
+    pub(crate) marks: Vec<bool>,
+    pub(crate) rows: Vec<u64>,
 }
 
 /// No rows of so many.
-fn none(alloc: Global, size: usize) -> Result<Gathered, AllocError>
+pub(crate) fn none(alloc: Global, size: usize) -> Result<Gathered, AllocError>
     ensures size { IfOk result (λ gathered. length gathered.marks.items ≡ size) }
     ensures rows { IfOk result (λ gathered. gathered.rows.items ≡ []) }
     ensures marked { IfOk result (λ gathered. AreMarked gathered.marks.items gathered.rows.items) }
@@ -33,7 +33,7 @@ fn none(alloc: Global, size: usize) -> Result<Gathered, AllocError>
 }
 
 /// Puts the row behind the others, unless it is there.
-fn gather(gathered: &mut Gathered, row: u64) -> Result<(), AllocError>
+pub(crate) fn gather(gathered: &mut Gathered, row: u64) -> Result<(), AllocError>
     requires there { row < length gathered.old.marks.items }
     requires marked { AreMarked gathered.old.marks.items gathered.old.rows.items }
     ensures { OnOk result (Gathers (λ j. j ≡ row) gathered.old.marks.items gathered.old.rows.items gathered.new.marks.items gathered.new.rows.items) }

@@ -1,6 +1,6 @@
-//! Rows that are made dormant.
-ghost use Rattle.std.specs.Prelude.{◌≡◌, ◌<◌, false, map};
-ghost use Rattle.plai_table.specs.Rows.{row_changed};
+//! Rows that are made dormant or live.
+ghost use Rattle.std.specs.Prelude.{◌≡◌, ◌<◌, true, false, map};
+ghost use Rattle.plai_table.specs.Rows.{row_changed, with_live};
 ghost use Rattle.plai_repair.specs.Opened.{slept};
 
 use plai_table::Table;
@@ -13,5 +13,14 @@ pub(crate) fn sleep_all<V: Eq + Hash + Drop>(table: &mut Table<V>)
     for row in 0..table.len() {
         table.sleep(row);
         table.set_entry(row, false);
+    }
+}
+
+/// Makes each row live. Names, answers and marks as an entry's stay.
+pub(crate) fn wake_all<V: Eq + Hash + Drop>(table: &mut Table<V>)
+    ensures { table.new.rows ≡ map (with_live true) table.old.rows }
+{
+    for row in 0..table.len() {
+        table.wake(row);
     }
 }
