@@ -70,4 +70,5 @@ module _ (n : ℕ) (s : Bindings) where
 
 pub meant_is_allowed : (name : List ℕ) (args : List Term) (fresh : ℕ) (s : Bindings) → AreBelow fresh args → Means name args fresh (Some s)
     → AllowedInTurn fresh (actions_of name (length args)) args (bound_to s)
+unfolding actions_of
 meant_is_allowed name args fresh s below = found_allowed fresh s (builtin_named name (length args)) args below

@@ -92,12 +92,15 @@ found_there None x i = absurd i
 found_there (Some b) x i = refl
 
 pub only_builtins : (name : List ℕ) (arity : ℕ) (x : Action) → IsIn x (actions_of name arity) → is_builtin_key name arity ≡ true
+unfolding actions_of
 only_builtins name arity = found_there (builtin_named name arity)
 
 pub actions_within : (name : List ℕ) (arity : ℕ) (x : Action) → IsIn x (actions_of name arity) → acts_within arity x
+unfolding actions_of
 actions_within name arity = found_within arity (builtin_named name arity) (sound name arity)
 
 pub actions_few : (name : List ℕ) (arity : ℕ) → length (actions_of name arity) ≤ 3
+unfolding actions_of
 actions_few name arity = found_few arity (builtin_named name arity) (sound name arity)
 
 -- small lists

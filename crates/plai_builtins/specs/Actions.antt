@@ -43,5 +43,5 @@ builtin_actions builtin.Univ = Havoc (mask_of 0 + mask_of 1) ∷ []
 builtin_actions builtin.CopyTerm = Havoc (mask_of 1) ∷ []
 
 -- the actions of the builtin of this name and number of arguments; what is no builtin has none
-abbrev pub actions_of : List ℕ → ℕ → List Action
+unfoldable pub actions_of : List ℕ → ℕ → List Action
 actions_of name arity = given [] builtin_actions (builtin_named name arity)

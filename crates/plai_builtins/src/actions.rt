@@ -106,7 +106,7 @@ fn builtin_actions(builtin: Builtin) -> Actions
 
 /// What a builtin does to a state: its actions in turn, none where the name with that number of arguments is no builtin.
 /// It takes no memory.
-#[tactic(auto, using(crate::proofs::Tables::listed_actions))]
+#[tactic(auto, using(crate::proofs::Tables::listed_actions), unfolding(crate::specs::Actions::actions_of))]
 pub fn actions_of(name: &Name, arity: u32) -> Actions
     ensures exact { result ≡ small (specs.actions_of name.now arity) }
     ensures actions { listed result ≡ specs.actions_of name.now arity }
@@ -119,6 +119,7 @@ pub fn actions_of(name: &Name, arity: u32) -> Actions
 
 /// What a builtin does to a state: its actions in turn. `None` exactly where the name with that number of arguments is no
 /// builtin. It takes no memory.
+#[tactic(auto, unfolding(crate::specs::Actions::actions_of))]
 pub fn table(name: &Name, arity: u32) -> Option<Actions>
     ensures { result ≡ (if is_builtin_key name.now arity then Some (small (specs.actions_of name.now arity)) else None) }
 {
