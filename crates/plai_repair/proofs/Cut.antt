@@ -1,7 +1,7 @@
 -- What is left of a table and its arcs where its lost rows are removed, the others sleep, and the clauses that were gained are
 -- dirty.
-use Rattle.std.proofs.Common.{◌≡◌, ◌↔◌, ℕ, zero, suc, ◌<◌, ◌≤◌, Bool, true, false, ◌||◌, List, [], ◌∷◌, map, length, get_or, slice_get, Option, Some, None, Result}
-use Rattle.std.proofs.Common.{IsSome, sym, refl, ap, ◌∙◌, subst, inr, arith, OnOk, Ok, Err}
+use Rattle.std.proofs.Common.{◌≡◌, ◌↔◌, ℕ, zero, suc, ◌<◌, ◌≤◌, Bool, true, false, ◌||◌, List, [], ◌∷◌, map, length, get_or, slice_get, Option, Some, None}
+use Rattle.std.proofs.Common.{Result, IsSome, sym, refl, ap, ◌∙◌, subst, inr, arith, OnOk, Ok, Err}
 use Rattle.plai_theory.specs.Words.{HasSome, given, item}
 use Rattle.plai_theory.specs.LeastTable.{Row}
 use Rattle.plai_theory.proofs.Options.{by_test}
@@ -129,12 +129,14 @@ module _ {V : Type 0} (value_of : V → Abs) (p : PlainDomain) (old new : Progra
         or_false true = refl
         or_false false = refl
 
-    safe : (n : ℕ) → get_or marks n false ≡ false → IsLost (Loses (as_domain p) (as_program p old) (as_program p new) (kept_rows value_of p ts)) (is_call arcs) n → ⊥
+    abbrev Lost : ℕ → Type 0
+    Lost n = IsLost (Loses (as_domain p) (as_program p old) (as_program p new) (kept_rows value_of p ts)) (is_call arcs) n
+
+    safe : (n : ℕ) → get_or marks n false ≡ false → Lost n → ⊥
     safe n e l =
         let t : get_or marks n false ≡ true = (lost.agree n).1 (lost_as (is_call arcs) (λ j h. loses_at ts j h) n l) in cc
 
-    unmarked : (n : ℕ) → (IsLost (Loses (as_domain p) (as_program p old) (as_program p new) (kept_rows value_of p ts)) (is_call arcs) n → ⊥)
-        → get_or marks n false ≡ false
+    unmarked : (n : ℕ) → (Lost n → ⊥) → get_or marks n false ≡ false
     unmarked n h =
         by_test (get_or marks n false) (λ t. absurd (h (lost_as (is_call arcs) (λ j l. at_loses ts j l) n ((lost.agree n).0 t)))) (λ t. t)
 

@@ -105,7 +105,8 @@ module _ {V : Type 0} (before after : ProgramView) (rows : List (TableRow V)) wh
       (λ t.
       let is : r ≡ row = eqb-true r row t in
       let here : is_past (length old) (length new) c ≡ is_gained before after q.name.pred c =
-      ap (λ (xs : List Clause). is_past (length xs) (length new) c) e ∙ ap (λ (xs : List Clause). is_past (length (clauses_of before q.name.pred)) (length xs) c) f in
+      ap (λ (xs : List Clause). is_past (length xs) (length new) c) e
+      ∙ ap (λ (xs : List Clause). is_past (length (clauses_of before q.name.pred)) (length xs) c) f in
       let there : gained_at before after rows r c ≡ is_gained before after q.name.pred c =
       ap (λ (n : ℕ). gained_at before after rows n c) is ∙ ap (given false (λ (z : TableRow V). is_gained before after z.name.pred c)) at in
       ap (λ b. nat_eq r row && b) (here ∙ sym there))
