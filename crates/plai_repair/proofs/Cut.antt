@@ -1,8 +1,7 @@
 -- What is left of a table and its arcs where its lost rows are removed, the others sleep, and the clauses that were gained are
 -- dirty.
 use Rattle.std.proofs.Common.{◌≡◌, ◌↔◌, ℕ, zero, suc, ◌<◌, ◌≤◌, Bool, true, false, ◌||◌, List, [], ◌∷◌, map, length, get_or, slice_get, Option, Some, None}
-use Rattle.std.proofs.Common.{Result}
-use Rattle.std.proofs.Common.{IsSome, sym, refl, ap, ◌∙◌, subst, inr, arith, OnOk, Ok, Err}
+use Rattle.std.proofs.Common.{Result, IsSome, sym, refl, ap, ◌∙◌, subst, inr, arith, OnOk, Ok, Err}
 use Rattle.plai_theory.specs.Words.{HasSome, given, item}
 use Rattle.plai_theory.specs.LeastTable.{Row}
 use Rattle.plai_theory.proofs.Options.{by_test}
@@ -59,11 +58,6 @@ item_some (x ∷ xs) (suc i) e = let h = item_some xs i e in omega (arith, h)
 none_of : (o : Option ℕ) (t : ℕ → Bool) → ((b : ℕ) → t b ≡ false) → of_row o t ≡ false
 none_of None t h = refl
 none_of (Some b) t h = h b
-
--- what two facts on success say together
-pub ok_both : {T E : Type 0} (r : Result T E) {P Q R : Type 0} → (P → Q → R) → OnOk r P → OnOk r Q → OnOk r R
-ok_both (Ok x) f p q = f p q
-ok_both (Err e) f p q = tt
 
 module _ (p : PlainDomain) (old new : ProgramView) where
   gains_of : (pred : PredKey) (m : ℕ) → is_gained old new pred m ≡ true → Gains (as_domain p) (as_program p old) (as_program p new) pred m
@@ -130,13 +124,14 @@ module _ {V : Type 0} (value_of : V → Abs) (p : PlainDomain) (old new : Progra
         or_false true = refl
         or_false false = refl
 
-    safe : (n : ℕ) → get_or marks n false ≡ false
-        → IsLost (Loses (as_domain p) (as_program p old) (as_program p new) (kept_rows value_of p ts)) (is_call arcs) n → ⊥
+    abbrev Lost : ℕ → Type 0
+    Lost n = IsLost (Loses (as_domain p) (as_program p old) (as_program p new) (kept_rows value_of p ts)) (is_call arcs) n
+
+    safe : (n : ℕ) → get_or marks n false ≡ false → Lost n → ⊥
     safe n e l =
         let t : get_or marks n false ≡ true = (lost.agree n).1 (lost_as (is_call arcs) (λ j h. loses_at ts j h) n l) in cc
 
-    unmarked : (n : ℕ) → (IsLost (Loses (as_domain p) (as_program p old) (as_program p new) (kept_rows value_of p ts)) (is_call arcs) n → ⊥)
-        → get_or marks n false ≡ false
+    unmarked : (n : ℕ) → (Lost n → ⊥) → get_or marks n false ≡ false
     unmarked n h =
         by_test (get_or marks n false) (λ t. absurd (h (lost_as (is_call arcs) (λ j l. at_loses ts j l) n ((lost.agree n).0 t)))) (λ t. t)
 
@@ -154,7 +149,7 @@ module _ {V : Type 0} (value_of : V → Abs) (p : PlainDomain) (old new : Progra
     }
 
     -- Theorem: it is open.
-    pub is_opened : IsLawful p → IsWellFormed old → IsOpened value_of p old new rows now new_arcs
+    is_opened : IsLawful p → IsWellFormed old → IsOpened value_of p old new rows now new_arcs
     is_opened laws good =
         let lawful = lawful_at p laws old good in
         let (from, least) = w.least in
@@ -169,3 +164,14 @@ module _ {V : Type 0} (value_of : V → Abs) (p : PlainDomain) (old new : Progra
               (state_of value_of p now new_arcs) w closed stable cut;
           asleep = subst AreAsleep (sym sleeps) (all_asleep mid);
         }
+
+-- the same, where marking the gained clauses succeeded
+pub opened_where : {T E V : Type 0} (r : Result T E) (value_of : V → Abs) (p : PlainDomain) (old new : ProgramView) (ts mid now : List (TableRow V))
+    (arcs mid_arcs new_arcs : Arcs) (marks : List Bool) → AreLost (LosesAt old new ts) (is_call arcs) (length ts) marks
+    → Removes marks 0 ts arcs mid mid_arcs → now ≡ map slept mid
+    → OnOk r ((r c : ℕ) → is_dirty new_arcs r c ≡ (gained_at old new now r c || is_dirty mid_arcs r c))
+    → OnOk r ((r c q : ℕ) → is_call new_arcs r c q ≡ is_call mid_arcs r c q) → IsLawful p → IsWellFormed old
+    → OnOk r ((rows : List (Row (as_domain p))) → IsWholeTable value_of p old rows ts arcs → IsOpened value_of p old new rows now new_arcs)
+opened_where (Ok x) value_of p old new ts mid now arcs mid_arcs new_arcs marks lost removes sleeps dirty calls laws good =
+    λ rows w. is_opened value_of p old new ts mid now arcs mid_arcs new_arcs marks lost removes sleeps dirty calls rows w laws good
+opened_where (Err e) value_of p old new ts mid now arcs mid_arcs new_arcs marks lost removes sleeps dirty calls laws good = tt

@@ -5,6 +5,8 @@ use Rattle.std.proofs.lemmas.Bool.{eq-eqb}
 use Rattle.std.proofs.lemmas.List.Sums.{sum_by-cons}
 use Rattle.plai_theory.specs.Words.{given}
 use Rattle.plai_theory.proofs.Options.{by_test}
+use Rattle.plai_clauses.specs.Program.{ProgramView, clauses_of}
+use Rattle.plai_clauses.specs.declared.clause.Clause.{Clause}
 use Rattle.plai_arcs.specs.declared.arcs.Arcs.{Arcs}
 use Rattle.plai_arcs.specs.Arcs.{is_call}
 use Rattle.plai_arcs.specs.Links.{one_if}
@@ -12,9 +14,9 @@ use Rattle.plai_table.specs.Rows.{TableRow, with_live}
 use Rattle.plai_repair.specs.Lost.{IsLost, AreLost, Itself, ByCall}
 use Rattle.plai_repair.specs.Gathering.{AreMarked, Gathers, IsAmong, IsCalledTo, turned}
 use Rattle.plai_repair.specs.Removal.{Removes}
-use Rattle.plai_repair.specs.Reached.{entry_at, IsReached, First, Then, AreReached, KeepsReached}
+use Rattle.plai_repair.specs.Reached.{entry_at, IsReached, First, Then, AreReached, AreCallsWithin, KeepsReached}
 use Rattle.plai_repair.proofs.Gathered.{gathers_none, gathers_same, gathers_then}
-use Rattle.plai_repair.proofs.Members.{of_two}
+use Rattle.plai_repair.proofs.Members.{of_two, at_some}
 
 -- the first rows of a list
 pub among_first : (xs : List ℕ) (marks : List Bool) (rows : List ℕ) → AreMarked marks rows → Gathers (IsAmong xs 0) marks rows marks rows
@@ -82,6 +84,14 @@ called_more calls i xs same a b =
 pub called_all : (calls : ℕ → ℕ → Bool) (i last : ℕ) {marks new_marks : List Bool} {rows new : List ℕ} → i ≡ last
     → Gathers (IsCalledTo calls i) marks rows new_marks new → Gathers (IsCalledTo calls last) marks rows new_marks new
 called_all calls i last {marks} {new_marks} {rows} {new} e a = subst (λ (n : ℕ). Gathers (IsCalledTo calls n) marks rows new_marks new) e a
+
+-- a call of a row is one of the clauses of its predicate
+pub called_within : {V : Type 0} (program : ProgramView) (table : List (TableRow V)) (calls : ℕ → ℕ → ℕ → Bool) (row k j : ℕ) (r : TableRow V)
+    (cs : List Clause) → AreCallsWithin program table calls → slice_get table row ≡ Some r → cs ≡ clauses_of program r.name.pred → calls row k j ≡ true
+    → IsCalledTo (calls row) (length cs) j
+called_within {V} program table calls row k j r cs w at e t =
+    let (b, l) = at_some (λ (r : TableRow V). (1 ≤ k) × (k ≤ length (clauses_of program r.name.pred))) (slice_get table row) r at (w.callers row k j t) in
+    (k, b, subst (λ (xs : List Clause). k ≤ length xs) (sym e) l, t)
 
 -- the entries' rows
 module _ {V : Type 0} (table : List (TableRow V)) where

@@ -10,7 +10,7 @@ module _ {V : Type 0} where
   changed_to f (suc n) [] = []
   changed_to f (suc n) (r ∷ rows) = f r ∷ changed_to f n rows
 
-  pub changed_more : (f : TableRow V → TableRow V) (rows : List (TableRow V)) (n : ℕ) → row_changed f (changed_to f n rows) n ≡ changed_to f (n + 1) rows
+  changed_more : (f : TableRow V → TableRow V) (rows : List (TableRow V)) (n : ℕ) → row_changed f (changed_to f n rows) n ≡ changed_to f (n + 1) rows
   changed_more f rows n = at rows n ∙ ap (λ m. changed_to f m rows) (let e : suc n ≡ n + 1 = omega arith in e)
     where
       at : (rows : List (TableRow V)) (n : ℕ) → row_changed f (changed_to f n rows) n ≡ changed_to f (suc n) rows
@@ -19,13 +19,13 @@ module _ {V : Type 0} where
       at (r ∷ rows) zero = refl
       at (r ∷ rows) (suc n) = ap (λ (rest : List (TableRow V)). f r ∷ rest) (at rows n)
 
-  pub changed_twice : (f g : TableRow V → TableRow V) (rows : List (TableRow V)) (n : ℕ)
+  changed_twice : (f g : TableRow V → TableRow V) (rows : List (TableRow V)) (n : ℕ)
       → row_changed g (row_changed f rows n) n ≡ row_changed (λ r. g (f r)) rows n
   changed_twice f g [] n = refl
   changed_twice f g (r ∷ rows) zero = refl
   changed_twice f g (r ∷ rows) (suc n) = ap (λ (rest : List (TableRow V)). r ∷ rest) (changed_twice f g rows n)
 
-  pub changed_all : (f : TableRow V → TableRow V) (rows : List (TableRow V)) (n : ℕ) → length rows ≤ n → changed_to f n rows ≡ map f rows
+  changed_all : (f : TableRow V → TableRow V) (rows : List (TableRow V)) (n : ℕ) → length rows ≤ n → changed_to f n rows ≡ map f rows
   changed_all f [] zero h = refl
   changed_all f [] (suc n) h = refl
   changed_all f (r ∷ rows) zero h = absurd (omega (arith, h))
@@ -40,6 +40,19 @@ module _ {V : Type 0} where
   long_changed f [] n = refl
   long_changed f (r ∷ rows) zero = refl
   long_changed f (r ∷ rows) (suc n) = ap suc (long_changed f rows n)
+
+  -- one more row is changed
+  pub changed_next : (f : TableRow V → TableRow V) (rows before now : List (TableRow V)) (n : ℕ) → now ≡ row_changed f before n → before ≡ changed_to f n rows
+      → now ≡ changed_to f (n + 1) rows
+  changed_next f rows before now n e h = e ∙ ap (λ (xs : List (TableRow V)). row_changed f xs n) h ∙ changed_more f rows n
+
+  pub changed_next_twice : (f g : TableRow V → TableRow V) (rows before mid now : List (TableRow V)) (n : ℕ) → now ≡ row_changed g mid n
+      → mid ≡ row_changed f before n → before ≡ changed_to (λ r. g (f r)) n rows → now ≡ changed_to (λ r. g (f r)) (n + 1) rows
+  changed_next_twice f g rows before mid now n e k h =
+      changed_next (λ r. g (f r)) rows before now n (e ∙ ap (λ (xs : List (TableRow V)). row_changed g xs n) k ∙ changed_twice f g before n) h
+
+  pub changed_end : (f : TableRow V → TableRow V) (rows now : List (TableRow V)) (n : ℕ) → now ≡ changed_to f n rows → length rows ≤ n → now ≡ map f rows
+  changed_end f rows now n e h = e ∙ changed_all f rows n h
 
   -- the next row is there
   pub next_within : (f : TableRow V → TableRow V) (rows now : List (TableRow V)) (n : ℕ) → now ≡ changed_to f n rows → n < length rows → n < length now

@@ -20,7 +20,8 @@ pub record IsTaken {V : Type 0} (row : ℕ) (rows : List (TableRow V)) (arcs : A
   pub renumbers : Renumbers (was row moved) rows arcs new new_arcs
 
 -- Of the rows from the number on the unmarked ones are there, and all below, each once and under the number that it had.
-pub record Removes {V : Type 0} (marks : List Bool) (from : ℕ) (rows : List (TableRow V)) (arcs : Arcs) (new : List (TableRow V)) (new_arcs : Arcs) : Type 0 where
+pub record Removes {V : Type 0} (marks : List Bool) (from : ℕ) (rows : List (TableRow V)) (arcs : Arcs) (new : List (TableRow V)) (new_arcs : Arcs)
+    : Type 0 where
   pub had : ℕ → Option ℕ
   pub renumbers : Renumbers had rows arcs new new_arcs
   pub below : (k : ℕ) → k < from → had k ≡ Some k

@@ -1,11 +1,9 @@
-use Rattle.std.proofs.Common.{◌≡◌, ◌≤◌, length, ℕ, true, false, get_or, subst, sym, arith}
+use Rattle.std.proofs.Common.{◌≡◌, length, ℕ, true, false, get_or, subst, arith}
 use Rattle.plai_theory.specs.Words.{IsIn}
 use Rattle.plai_arcs.specs.Arcs.{is_call}
-use Rattle.plai_clauses.specs.Program.{clauses_of}
-use Rattle.plai_table.specs.Rows.{TableRow}
 use Rattle.plai_repair.specs.Gathering.{Spreads, IsCalledTo, turned}
-use Rattle.plai_repair.proofs.Members.{item_read, in_place, place_within, at_some}
-use Rattle.plai_repair.proofs.Reaches.{marked_within}
+use Rattle.plai_repair.proofs.Members.{item_read, in_place, place_within}
+use Rattle.plai_repair.proofs.Reaches.{marked_within, called_within}
 use Rattle.plai_repair.proofs.Spread.{spreads_first, spreads_more, few}
 use Rattle.plai_repair.proofs.reaching.spread_called.Goals as goal
 
@@ -43,11 +41,8 @@ loop-index-preserved g c =
           spreads_more (turned (is_call c.args.arcs.now)) c.loop-index.index row (IsCalledTo (is_call c.args.arcs.now row) (length clauses))
           c.loop-index.invariant.spreads at c.in_ok-gather_called.ensures
           (λ j e. let (k, b, l, t) = e in (k, t))
-          (λ j k t.
-          let (b, l) =
-          at_some (λ (r : TableRow g.row.V.Denot). (1 ≤ k) × (k ≤ length (clauses_of c.args.program.now r.name.pred))) _ _ c.row.ensures
-          (c.requires.within.callers row k j t) in
-          (k, b, subst (λ cs. k ≤ length cs) (sym c.clauses_of-clauses.ensures) l, t));
+          (λ j k t. called_within c.args.program.now c.args.table.now.rows (is_call c.args.arcs.now) row k j _ clauses c.requires.within
+          c.row.ensures c.clauses_of-clauses.ensures t);
     }
 
 pub loop-index-smaller : goal.loop-index-smaller

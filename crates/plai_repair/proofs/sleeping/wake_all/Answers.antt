@@ -1,6 +1,6 @@
-use Rattle.std.proofs.Common.{true, ap, ◌∙◌, arith}
-use Rattle.plai_table.specs.Rows.{row_changed, with_live}
-use Rattle.plai_repair.proofs.Slept.{changed_more, changed_all, next_within}
+use Rattle.std.proofs.Common.{true, arith}
+use Rattle.plai_table.specs.Rows.{with_live}
+use Rattle.plai_repair.proofs.Slept.{changed_next, changed_end, next_within}
 use Rattle.plai_repair.proofs.sleeping.wake_all.Goals as goal
 
 pub wake-requires : goal.wake-requires
@@ -10,11 +10,9 @@ wake-requires g c =
 
 pub loop-row-preserved : goal.loop-row-preserved
 loop-row-preserved g c =
-    let row = c.loop-row.row in
-    c.wake.ensures.rows ∙ ap (λ rows. row_changed (with_live true) rows row) c.loop-row.invariant
-    ∙ changed_more (with_live true) c.args.table.now.rows row
+    changed_next (with_live true) c.args.table.now.rows c.loop-row.table.rows c.wake.new.self.rows c.loop-row.row c.wake.ensures.rows c.loop-row.invariant
 
 pub returns : goal.returns
 returns g c =
-    c.loop-row.invariant ∙ changed_all (with_live true) c.args.table.now.rows c.loop-row.row
+    changed_end (with_live true) c.args.table.now.rows c.loop-row.table.rows c.loop-row.row c.loop-row.invariant
     (omega (arith, c.loop-row-test.false, c.len-row-end.ensures.len))
