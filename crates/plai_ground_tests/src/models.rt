@@ -31,10 +31,8 @@ fn has_argument(assignment: u64, argument: u32) -> bool {
 }
 
 /// The part of the assignment on the first slots.
-fn first_slots(assignment: u64, slots: u32) -> u64
-    requires { slots < 64 }
-{
-    assignment & !(u64::MAX << slots)
+fn first_slots(assignment: u64, slots: u32) -> u64 {
+    assignment & !u64::MAX.checked_shl(slots).unwrap_or(0)
 }
 
 /// Whether all variables of the term are true, where variable `k` is slot `first + k`.
@@ -199,9 +197,7 @@ impl Place {
     }
 
     /// The answer of the clause: the arguments' part of the models.
-    pub fn exit(&self, alloc: Global) -> Result<Vec<u64>, AllocError>
-        requires { self.now.arity < 64 }
-    {
+    pub fn exit(&self, alloc: Global) -> Result<Vec<u64>, AllocError> {
         let parts = self
             .models
             .iter()
