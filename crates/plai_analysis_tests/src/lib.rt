@@ -11,5 +11,3 @@ mod engines;
 mod limits;
 #[cfg(test)]
 mod logs;
-#[cfg(test)]
-mod sessions;
