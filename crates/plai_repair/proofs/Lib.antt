@@ -12,3 +12,5 @@ pub mod Gains
 pub mod Slept
 pub mod Cut
 pub mod Reaches
+pub mod Ended
+pub mod Again

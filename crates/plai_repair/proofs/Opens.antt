@@ -56,13 +56,13 @@ both_of R f None h = tt
 both_of R f (Some x) h = h x refl
 
 -- both tests of rows are true
-rows_of : (o p : Option ℕ) (t : ℕ → ℕ → Bool) → of_row o (λ a. of_row p (λ b. t a b)) ≡ true
+pub rows_of : (o p : Option ℕ) (t : ℕ → ℕ → Bool) → of_row o (λ a. of_row p (λ b. t a b)) ≡ true
     → (a : ℕ) × (b : ℕ) × (o ≡ Some a) × (p ≡ Some b) × (t a b ≡ true)
 rows_of None p t e = cc
 rows_of (Some a) None t e = cc
 rows_of (Some a) (Some b) t e = (a, b, refl, refl, e)
 
-some_has : {A : Type 0} (P : A → Type 0) (o : Option A) → HasSome P o → IsSome o
+pub some_has : {A : Type 0} (P : A → Type 0) (o : Option A) → HasSome P o → IsSome o
 some_has P None h = absurd h
 some_has P (Some x) h = refl
 
