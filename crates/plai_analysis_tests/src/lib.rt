@@ -11,3 +11,5 @@ mod engines;
 mod limits;
 #[cfg(test)]
 mod logs;
+#[cfg(test)]
+mod sessions;
