@@ -159,15 +159,16 @@ module _ (p : PlainDomain) (laws : IsLawful p) (printed : IsPrinted p) (program 
 
   call_is_value : (n : ℕ) (kept : KeptRow (as_domain p)) → item k.rows n ≡ Some kept → IsValue p kept.name.pred.arity kept.name.call
   call_is_value n kept e =
-      name_is_value (as_domain p) (as_program p program) theory_laws (as_limits p) limit s.log k None s.logged n kept.name
+      name_is_value (as_domain p) (as_program p program) theory_laws (as_limits p) limit (no_work (as_domain p)) s.log k None s.logged n kept.name
       (has_some (λ (z : KeptRow (as_domain p)). z.name ≡ kept.name) (item k.rows n) kept e refl)
 
   answer_fits : (n : ℕ) (kept : KeptRow (as_domain p)) → item k.rows n ≡ Some kept → Needed n kept → (a : Abs) → kept.answer ≡ Some a
       → IsValue p kept.name.pred.arity a
   answer_fits n kept e h a f =
-      answer_is_value (as_domain p) (as_program p program) theory_laws (as_limits p) limit s.log k None s.logged kept.name.pred kept.name.call a
-      (call_is_value n kept e)
-      (kept_answers (as_domain p) (as_program p program) theory_laws (as_limits p) limit s.log k None s.logged kept.name.pred kept.name.call ∙ h.answer ∙ f)
+      answer_is_value (as_domain p) (as_program p program) theory_laws (as_limits p) limit (no_work (as_domain p)) s.log k None s.logged kept.name.pred
+      kept.name.call a (call_is_value n kept e)
+      (kept_answers (as_domain p) (as_program p program) theory_laws (as_limits p) limit (no_work (as_domain p)) s.log k None s.logged kept.name.pred
+      kept.name.call ∙ h.answer ∙ f)
 
   few_arguments : (n : ℕ) (kept : KeptRow (as_domain p)) → Needed n kept → kept.name.pred.arity ≤ 16
   few_arguments n kept h =
@@ -191,7 +192,7 @@ module _ (p : PlainDomain) (laws : IsLawful p) (printed : IsPrinted p) (program 
       let v : IsValue p a.name.pred.arity b.name.call = subst (λ (q : PredKey). IsValue p q.arity b.name.call) (sym same) (call_is_value n b f) in
       let c : a.name.call ≡ b.name.call = printed.apart a.name.pred.arity a.name.call b.name.call (few_arguments m a h) (call_is_value m a e) v text in
       let name : a.name ≡ b.name = λ i. record { pred = same i; call = c i } in
-      one_row (as_domain p) (as_program p program) theory_laws (as_limits p) limit s.log k None s.logged m n b.name
+      one_row (as_domain p) (as_program p program) theory_laws (as_limits p) limit (no_work (as_domain p)) s.log k None s.logged m n b.name
       (has_some (λ (z : KeptRow (as_domain p)). z.name ≡ b.name) (item k.rows m) a e name)
       (has_some (λ (z : KeptRow (as_domain p)). z.name ≡ b.name) (item k.rows n) b f refl)
 

@@ -47,14 +47,14 @@ module _ (d : Domain) (g : Program d) (laws : IsLawful d g) (limits : Limits d) 
       let (kept, e, h) = kept_at m r at in
       let (j, c, is, there) = numbered d g r.name.pred i (h.calls_clauses i n called) in
       let found : find d rows r.name ≡ Some r = found_at d g laws rows s.logged.keeps.own m r at in
-      let clean : r.dirty j ≡ false = s.end.clean r.name r found (s.logged.live m r at) j c there in
+      let clean : r.dirty j ≡ false = s.end.clean r.name r found (s.live m r at) j c there in
       let call : k.calls m (suc j) n ≡ true = subst (λ (a : ℕ). k.calls m a n ≡ true) is called in
       record {
         row = r;
         number = j;
         clause = c;
         there = found;
-        is_live = s.logged.live m r at;
+        is_live = s.live m r at;
         is_clause = there;
         names = (h.calls j c there clean (λ (e : None ≡ Some (m, j)). cc) n x named).0 call;
       }

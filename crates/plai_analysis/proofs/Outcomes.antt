@@ -1,5 +1,5 @@
 -- How work on a program ends, as an analysis tells it.
-use Rattle.std.proofs.Common.{◌≡◌, ◌↔◌, ℕ, ◌-◌, true, List, slice_get, Option, Some, None, sym, refl, ◌∙◌, subst}
+use Rattle.std.proofs.Common.{◌≡◌, ◌↔◌, ℕ, ◌-◌, true, List, [], slice_get, Option, Some, None, sym, refl, ◌∙◌, subst}
 use Rattle.plai_theory.specs.Words.{IsIn, HasSome, given, item}
 use Rattle.plai_theory.specs.Domain.{Name}
 use Rattle.plai_theory.specs.Domain as theory
@@ -38,7 +38,7 @@ module _ (p : PlainDomain) (laws : IsLawful p) (program : ProgramView) (good : I
   theory_laws = lawful_at p laws program good
 
   pub solved : {V : Type 0} (value_of : V → Abs) (rows : List (TableRow V)) (steps : ℕ) (k : Keeping (as_domain p)) → k.rows ≡ kept_rows value_of p rows
-      → HasLog p program begun told steps (IsSolvedBy p program limit k) → AreMarked value_of p program rows
+      → HasLog p program begun told steps (IsSolvedBy p program limit (no_work (as_domain p)) k) → AreMarked value_of p program rows
       → IsSolved (as_domain p) (as_program p program) (as_limits p) limit k (entry_at rows)
   solved {V} value_of rows steps k same h marked = record {
     log = h.log;
@@ -47,9 +47,10 @@ module _ (p : PlainDomain) (laws : IsLawful p) (program : ProgramView) (good : I
       fits = h.is.fits;
       keeps = h.is.keeps;
       few = h.is.few;
-      live = λ n r at. all_live (as_domain p) (as_program p program) theory_laws h.log r
-          (item_in (after_all (as_domain p) (as_program p program) (no_work (as_domain p)) h.log).rows n r at);
+      values = record { names = λ x r e. cc; answers = λ x r e. cc; calls = λ x r e. cc };
     };
+    live = λ n r at. all_live (as_domain p) (as_program p program) theory_laws h.log r
+        (item_in (after_all (as_domain p) (as_program p program) (no_work (as_domain p)) h.log).rows n r at);
     end = h.is.whole.end;
     entries = λ n x named. is_entry n x (subst (λ (kept : List (KeptRow (as_domain p))). IsNamed (as_domain p) kept n x) same named);
   }
@@ -71,13 +72,15 @@ module _ (p : PlainDomain) (laws : IsLawful p) (program : ProgramView) (good : I
                 λ i. is ∙ two (subst (λ (y : Name PredKey Abs). IsIn y (as_program p program).entries) (sym named) i),
               )
 
-  pub not_over : (steps : ℕ) (k : Keeping (as_domain p)) → HasLog p program begun told steps (IsSolvedBy p program limit k) → IsOver p program → ⊥
+  pub not_over : (steps : ℕ) (k : Keeping (as_domain p)) → HasLog p program begun told steps (IsSolvedBy p program limit (no_work (as_domain p)) k)
+      → IsOver p program → ⊥
   not_over steps k h over =
       log_not_over (as_domain p) (as_program p program) theory_laws (as_limits p) (limits_at p laws program good) limit (no_work (as_domain p))
       (empty (as_domain p) (as_program p program) theory_laws)
       (nothing_fits (as_domain p) (as_program p program) (limits_at p laws program good)) h.log h.is.whole.legal h.is.fits h.is.whole.end over
 
-  pub cause : (steps : ℕ) (fail : SolveFail) → Stops p program limit begun told steps fail → HasCause p program limit (fail_of fail)
+  pub cause : (steps : ℕ) (fail : SolveFail) → Stops p program limit (record { rows = []; told = begun }) told steps fail
+      → HasCause p program limit (fail_of fail)
   cause steps Memory stop = tt
   cause steps (Rows n) (same, h) = (same, rows_cause p laws program good limit h.log h.is.stopped.legal h.is.name h.is.stopped h.is.met)
   cause steps (Groups row number literal place) h =

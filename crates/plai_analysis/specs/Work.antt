@@ -1,5 +1,5 @@
 -- What is told of the work of an analysis: a legal log (Hermenegildo, Puebla, Marriott and Stuckey 2000).
-use Rattle.std.specs.Prelude.{ℕ, List, Option}
+use Rattle.std.specs.Prelude.{ℕ, List, [], Option}
 use Rattle.plai_theory.specs.LegalWork.{no_work}
 use Rattle.plai_theory.specs.Claims.{IsWholeLog}
 use Rattle.plai_domain.specs.declared.work.WorkEntry.{WorkEntry}
@@ -19,4 +19,4 @@ HasEnded p program limit begun told steps =
 
 -- There is a legal log that stops so, or that want of memory cut off.
 abbrev pub HasStopped : (p : PlainDomain) → ProgramView → ℕ → Option (List WorkEntry) → Option (List WorkEntry) → ℕ → AnalyseFail → Type 0
-HasStopped p program limit begun told steps fail = Stops p program limit begun told steps (stop_of fail)
+HasStopped p program limit begun told steps fail = Stops p program limit (record { rows = []; told = begun }) told steps (stop_of fail)

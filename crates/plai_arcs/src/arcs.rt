@@ -114,6 +114,13 @@ impl Arcs {
         dirty::least(&self.dirty, row)
     }
 
+    /// Whether the pair is dirty.
+    pub fn is_marked(&self, row: u64, clause: u64) -> bool
+        ensures { result ≡ is_dirty self.now row clause }
+    {
+        dirty::is_marked(&self.dirty, row, clause)
+    }
+
     /// Takes away each pair and each call that names the row. Then the row that is moved has its number.
     pub fn drop_row(&mut self, row: u64, moved: Option<u64>)
         requires { IfSome moved (λ last. row < last) }

@@ -42,6 +42,17 @@ pub(crate) fn clear(rows: &mut [DirtyRow], row: u64, clause: u64)
     }
 }
 
+/// Whether the clause of the row is marked.
+pub(crate) fn is_marked(rows: &[DirtyRow], row: u64, clause: u64) -> bool
+    ensures { result ≡ dirty_at rows.now row clause }
+{
+    if row < rows.len() as u64 {
+        rows[row as usize].is_marked(clause)
+    } else {
+        false
+    }
+}
+
 /// The least marked clause of the row.
 pub(crate) fn least(rows: &[DirtyRow], row: u64) -> Option<u64>
     ensures none { IfNone result ((c : ℕ) → dirty_at rows.now row c ≡ false) }

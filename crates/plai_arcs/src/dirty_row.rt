@@ -58,6 +58,17 @@ impl DirtyRow {
         }
     }
 
+    /// Whether the clause is marked.
+    pub(crate) fn is_marked(&self, clause: u64) -> bool
+        ensures { result ≡ flag_at self.now.flags.items clause }
+    {
+        if clause < self.flags.len() as u64 {
+            self.flags[clause as usize]
+        } else {
+            false
+        }
+    }
+
     /// The least marked clause.
     pub(crate) fn least(&self) -> Option<u64>
         ensures none { IfNone result ((k : ℕ) → flag_at self.now.flags.items k ≡ false) }

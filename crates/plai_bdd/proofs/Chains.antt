@@ -3,7 +3,8 @@ use Rattle.std.proofs.Common.{◌≡◌, ◌≢◌, ℕ, ◌+◌, ◌-◌, ◌<�
 use Rattle.std.proofs.Common.{refl, sym, ap, subst, ◌∙◌, true≢false, arith, ◌⊎◌, inl, inr, length-append}
 use Rattle.std.proofs.Math.Bool.{and-true}
 use Rattle.std.proofs.lemmas.Bool.Decides.{nat_tests}
-use Rattle.plai_base.specs.Mask.{has_slot}
+use Rattle.std.proofs.lemmas.Nat.Bits.{bit_at-pow_same, bit_at-pow_other}
+use Rattle.plai_base.specs.Mask.{has_slot, mask_of}
 use Rattle.plai_bdd.specs.Assignment.{Assignment}
 use Rattle.plai_bdd.specs.Slots.{all_hold, conjunction}
 use Rattle.plai_bdd.specs.declared.node.Node.{Node}
@@ -17,7 +18,7 @@ use Rattle.plai_bdd.proofs.Adding.{Adds-as, Adds-leaf, Adds-there, Adds-join}
 use Rattle.plai_bdd.proofs.Canonical.{finished}
 use Rattle.plai_bdd.proofs.Functions.{IsFunction-as}
 use Rattle.plai_bdd.proofs.Shown.{no_slots}
-use Rattle.plai_bdd.proofs.Slots.{all_hold-more, all_hold-none, all_hold-Decides}
+use Rattle.plai_bdd.proofs.Slots.{all_hold-more, all_hold-none, all_hold-Decides, same_truth}
 
 -- the leaf false, built into nothing
 bottom : (least : ℕ) → Adds [] 0 (Leaf false ∷ []) least (λ _. false)
@@ -122,6 +123,23 @@ chain_is all k t e slot within some chain =
     let whole : IsChain all 0 t = subst (λ n. IsChain all n t) e chain in
     let all_of : (at : Assignment) → whole.rest at ≡ conjunction all at = λ at. ap (λ c. c && whole.rest at) (sym (all_hold-none all at)) ∙ whole.left at in
     finished t (length t - 1) (conjunction all) (Adds-as (omega arith) all_of (whole.outer slot (omega arith) within some))
+
+-- the set of one slot
+pub single_is : (all slot : ℕ) (t : List Node) → slot < 64 → all ≡ mask_of slot → IsFunction t (λ at. at slot) → IsFunction t (conjunction all)
+single_is all slot t lt e f = IsFunction-as (λ at. same_truth (at slot) (conjunction all at) (up at) (down at)) f
+  where
+    same_or_not : (a b : ℕ) → (a ≡ b) ⊎ (a ≢ b)
+    same_or_not a b = grind arith
+
+    only : (k : ℕ) → has_slot (mask_of slot) k ≡ true → (k ≡ slot) ⊎ (k ≢ slot) → k ≡ slot
+    only k has (inl same) = same
+    only k has (inr apart) = absurd (true≢false (sym has ∙ ap (λ b. nat_eq b 1) (bit_at-pow_other slot k apart)))
+
+    up : (at : Assignment) → at slot ≡ true → conjunction all at ≡ true
+    up at h = (all_hold-Decides all 64 at).1 (λ k within has. ap at (only k (sym (ap (λ m. has_slot m k) e) ∙ has) (same_or_not k slot)) ∙ h)
+
+    down : (at : Assignment) → conjunction all at ≡ true → at slot ≡ true
+    down at h = (all_hold-Decides all 64 at).0 h slot lt (ap (λ m. has_slot m slot) e ∙ ap (λ b. nat_eq b 1) (bit_at-pow_same slot))
 
 -- the empty set
 pub empty_is : (all : ℕ) (t : List Node) → all ≡ 0 → IsFunction t (λ _. true) → IsFunction t (conjunction all)

@@ -10,6 +10,7 @@ pub mod Functions
 pub mod Lists
 pub mod Models
 pub mod Noted
+pub mod Replaced
 pub mod Same
 pub mod Sets
 pub mod Shown

@@ -1,8 +1,8 @@
 -- Tables of nodes: each node once, children before parents.
 use Rattle.std.proofs.Common.{◌≡◌, ◌≢◌, ℕ, ◌+◌, ◌<◌, Bool, true, false, cond, not, nat_eq, ◌&&◌, ◌||◌, List, [], ◌∷◌, ◌++◌, length, get_or, fold, refl, sym}
-use Rattle.std.proofs.Common.{ap, subst, ◌∙◌, true≢false, arith, ◌⊎◌, inl, inr, length-append}
+use Rattle.std.proofs.Common.{ap, subst, ◌∙◌, true≢false, arith, ◌⊎◌, inl, inr, length-append, nat_lt, Some, None}
 use Rattle.std.specs.Bool.{beq}
-use Rattle.std.specs.List.{list_any, position_or_len}
+use Rattle.std.specs.List.{list_any, position, position_or_len}
 use Rattle.std.proofs.lemmas.Bool.Decides.{nat_tests}
 use Rattle.std.proofs.lemmas.List.{get_or_append_left, get_or_push}
 use Rattle.std.proofs.lemmas.List.Sums.{fold-append, fails_before_first, passes_at_first}
@@ -78,6 +78,37 @@ missing p (n ∷ t) h =
     let f : position_or_len p (n ∷ t) ≡ 1 + position_or_len p t = ap (λ b. cond (not b) (1 + position_or_len p t) 0) e in
     let more = missing p t (none_rest (p n) (list_any p t) h) in
     omega (arith, f, more)
+
+-- what `position` finds
+some_is_no : (a : ℕ) → None ≡ Some a → ⊥
+some_is_no a h = cc
+
+found_first : (p : Node → Bool) (t : List Node) (place : ℕ) → position p t ≡ Some place → list_any p t ≡ true
+found_first p t place h = by (list_any p t) refl
+  where
+    by : (b : Bool) → list_any p t ≡ b → list_any p t ≡ true
+    by true e = e
+    by false e =
+        let none : nat_lt (position_or_len p t) (length t) ≡ false = grind (arith, nat_tests, missing p t e) in
+        absurd (some_is_no place (sym (ap (λ b. cond b (Some (position_or_len p t)) None) none) ∙ h))
+
+found_none : (p : Node → Bool) (t : List Node) → position p t ≡ None → list_any p t ≡ false
+found_none p t h = by (list_any p t) refl
+  where
+    by : (b : Bool) → list_any p t ≡ b → list_any p t ≡ false
+    by false e = e
+    by true e =
+        let some : nat_lt (position_or_len p t) (length t) ≡ true = grind (arith, nat_tests, found p t e) in
+        absurd (some_is_no (position_or_len p t) (sym h ∙ ap (λ b. cond b (Some (position_or_len p t)) None) some))
+
+pub put_found : (node : Node) (t : List Node) (place : ℕ) → position (same_node node) t ≡ Some place → t ≡ put node t
+put_found node t place h = sym (ap (λ c. cond c t (t ++ node ∷ [])) (found_first (same_node node) t place h))
+
+pub put_new : (node : Node) (t : List Node) → position (same_node node) t ≡ None
+    → (length t ≡ place_of node t) × (t ++ node ∷ [] ≡ put node t)
+put_new node t h =
+    let none = found_none (same_node node) t h in
+    (sym (missing (same_node node) t none), sym (ap (λ c. cond c t (t ++ node ∷ [])) none))
 
 -- what a put does
 pub record Puts (node : Node) (t : List Node) : Type 0 where

@@ -4,16 +4,16 @@ use Rattle.std.proofs.Common.{refl, sym, ap, subst, ◌∙◌, ◌⊎◌, inl, i
 use Rattle.std.specs.List.{list_any}
 use Rattle.std.specs.Int.{bit_at}
 use Rattle.std.proofs.Math.Bool.{or-true}
-use Rattle.std.proofs.lemmas.Bool.{eq-eqb, eqb-true, ne_eqb}
+use Rattle.std.proofs.lemmas.Bool.{eq-eqb, ne_eqb}
 use Rattle.std.proofs.lemmas.List.{take_all}
 use Rattle.std.proofs.lemmas.List.Folds.{list_any_more}
 use Rattle.std.proofs.lemmas.Nat.Bits.{bit_at-zero, bit_at_or, bit_at-pow_same, bit_at-pow_other, bit_at-lt}
 use Rattle.plai_base.specs.Mask.{has_slot, mask_of}
 use Rattle.plai_bdd.specs.declared.node.Node.{Node}
-use Rattle.plai_bdd.specs.declared.node.Node.TheVariants.{Leaf, Branch}
+use Rattle.plai_bdd.specs.declared.node.Node.TheVariants.{Leaf}
 use Rattle.plai_bdd.specs.Assignment.{Assignment}
 use Rattle.plai_bdd.specs.Nodes.{holds, IsCanonical}
-use Rattle.plai_bdd.specs.Table.{no_node, slot_of}
+use Rattle.plai_bdd.specs.Table.{slot_of}
 use Rattle.plai_bdd.proofs.Canonical.{same_nodes}
 use Rattle.plai_bdd.proofs.Functions.{constant_is}
 

@@ -6,7 +6,7 @@ use Rattle.std.proofs.lemmas.Bool.{eqb-true, eq-eqb, and_parts}
 use Rattle.std.proofs.lemmas.Nat.Bits.{bit_at_or, bit_at-zero, bit_at-pow_other}
 use Rattle.plai_base.specs.Mask.{has_slot, mask_of}
 use Rattle.plai_bdd.specs.declared.node.Node.{Node}
-use Rattle.plai_bdd.specs.declared.combine.Pair.{Pair}
+use Rattle.plai_bdd.specs.declared.memo.Pair.{Pair}
 use Rattle.plai_bdd.specs.declared.walk.Line.{Line}
 use Rattle.plai_bdd.specs.Nodes.{tree_at}
 use Rattle.plai_bdd.specs.Walk.{Implies, AreShown, no_line, is_line_of, shows, with_pair}

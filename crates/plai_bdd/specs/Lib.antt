@@ -1,8 +1,10 @@
 pub mod Assignment
 pub mod Chain
 pub mod Change
+pub mod Memo
 pub mod Nodes
 pub mod Props
+pub mod Replace
 pub mod Slots
 pub mod Table
 pub mod Text

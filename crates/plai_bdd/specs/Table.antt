@@ -1,18 +1,27 @@
--- Tables of nodes, and what it means that a function was built into one. The memo on pairs of places is Bryant's (1986, section 4.3).
-use Rattle.std.specs.Prelude.{◌≡◌, ℕ, ◌<◌, ◌≤◌, Bool, false, cond, nat_eq, min, ◌&&◌, List, length, get_or, Some}
+-- Tables of nodes, and what it means that a function was built into one.
+use Rattle.std.specs.Prelude.{◌≡◌, ℕ, ◌<◌, ◌≤◌, Bool, false, cond, nat_eq, min, List, length, get_or, Some}
 use Rattle.plai_bdd.specs.declared.node.Node.{Node}
 use Rattle.plai_bdd.specs.declared.node.Node.TheVariants.{Leaf, Branch}
-use Rattle.plai_bdd.specs.declared.combine.Pair.{Pair}
+use Rattle.plai_bdd.specs.declared.memo.Pair.{Pair}
+use Rattle.plai_bdd.specs.declared.memo.Memo.{Memo}
+use Rattle.plai_bdd.specs.declared.table.Table.{Table}
+use Rattle.plai_bdd.specs.declared.table.Table.TheVariants.{Few, Many}
 use Rattle.plai_bdd.specs.declared.change.Connective.{Connective}
 use Rattle.plai_bdd.specs.declared.change.Change.{Change}
-use Rattle.indexmap.specs.IndexMap.{IndexMap, get}
+use Rattle.indexmap.specs.IndexSet.{keys}
 use Rattle.plai_bdd.specs.Assignment.{Assignment}
 use Rattle.plai_bdd.specs.Tree.{value, IsReduced}
 use Rattle.plai_bdd.specs.Change.{absorbs, can_place, moved, AllSlots, top_of, combined}
+use Rattle.plai_bdd.specs.Memo.{noted_at}
 use Rattle.plai_bdd.specs.Nodes.{tree_of_node, trees_of, tree_at, build, place_of, put}
 
 abbrev pub no_node : Node
 no_node = Leaf false
+
+-- the nodes of a table
+abbrev pub nodes_of : Table → List Node
+nodes_of (Few nodes) = nodes.items
+nodes_of (Many index) = keys index
 
 -- the node's children are below the place
 abbrev pub HasChildrenBelow : ℕ → Node → Type 0
@@ -77,9 +86,6 @@ joined_place slot low high t = cond (nat_eq low high) low (place_of (Branch slot
 abbrev pub joined_table : ℕ → ℕ → ℕ → List Node → List Node
 joined_table slot low high t = cond (nat_eq low high) t (put (Branch slot low high) t)
 
-abbrev pub same_pair : Pair → Pair → Bool
-same_pair a b = nat_eq a.left b.left && nat_eq a.right b.right
-
 -- the lesser of the top slots at a pair of places
 abbrev pub first_slot_of : List Node → List Node → ℕ → ℕ → ℕ
 first_slot_of left right i j = min (top_of (tree_at left i)) (top_of (tree_at right j))
@@ -92,6 +98,6 @@ abbrev pub function_of : Connective → Change → List Node → List Node → �
 function_of connective change left right i j = combined connective change (tree_at left i) (tree_at right j)
 
 -- what is noted is in the table
-pub record IsMemo {S : Type 0} (connective : Connective) (change : Change) (left right : List Node) (memo : IndexMap Pair ℕ S) (t : List Node) : Type 0 where
-  pub noted : (pair : Pair) (place : ℕ) → get same_pair memo pair ≡ Some place
+pub record IsMemo (connective : Connective) (change : Change) (left right : List Node) (memo : Memo) (t : List Node) : Type 0 where
+  pub noted : (pair : Pair) (place : ℕ) → noted_at memo pair ≡ Some place
       → Answers t place (least_of change left right pair.left pair.right) (function_of connective change left right pair.left pair.right)

@@ -3,7 +3,7 @@ use Rattle.std.specs.Prelude.{◌≡◌, ℕ, ◌/◌, ◌%◌, Bool, true, fals
 use Rattle.plai_base.specs.Mask.{has_slot, mask_of}
 use Rattle.plai_bdd.specs.declared.node.Node.{Node}
 use Rattle.plai_bdd.specs.declared.node.Node.TheVariants.{Leaf, Branch}
-use Rattle.plai_bdd.specs.declared.combine.Pair.{Pair}
+use Rattle.plai_bdd.specs.declared.memo.Pair.{Pair}
 use Rattle.plai_bdd.specs.declared.walk.Line.{Line}
 use Rattle.plai_bdd.specs.Assignment.{Assignment}
 use Rattle.plai_bdd.specs.Tree.{Tree, value}

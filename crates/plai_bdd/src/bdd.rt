@@ -9,11 +9,12 @@ ghost use Rattle.plai_bdd.specs.Slots.{AllTrue, Somewhere, conjunction, quantifi
 
 use crate::chain::chain;
 use crate::change::{Change, Connective};
-use crate::combine::{Pair, combine};
+use crate::combine::combine;
+use crate::memo::{Pair, blank_memo};
 use crate::node::Node;
 use crate::print::write_node;
-use crate::used::has_branch;
-use indexmap::{IndexMap, IndexSet};
+use crate::table::{empty_table, into_nodes};
+use crate::used::{has_branch, is_single};
 use plai_base::Mask;
 use std::alloc::{AllocError, Global};
 use std::hash::{Hash, Hasher};
@@ -82,12 +83,10 @@ impl Bdd {
             left: left.len() - 1,
             right: right.len() - 1,
         };
-        // (about as many nodes as the larger function has: the tables grow where there are more)
-        let size = left.len().max(right.len());
-        let mut table = IndexSet::with_capacity(alloc, size)?;
-        let mut memo = IndexMap::with_capacity(alloc, size)?;
+        let mut table = empty_table(alloc, left.len(), right.len())?;
+        let mut memo = blank_memo(alloc, left.len(), right.len())?;
         let _root = combine(connective, change, left, right, pair, &mut table, &mut memo)?;
-        let nodes = Vec::from_slice(alloc, table.as_slice())?;
+        let nodes = into_nodes(alloc, table)?;
         Ok(Bdd { nodes })
     }
 
@@ -95,7 +94,13 @@ impl Bdd {
     pub fn and(&self, alloc: Global, other: &Bdd) -> Result<Bdd, AllocError>
         ensures { IfOk result (λ b. IsFunction b (λ at. holds self.now at && holds other.now at)) }
     {
-        self.combined(alloc, other, Connective::And, Change::Keep)
+        if self.is_always() {
+            other.copy(alloc)
+        } else if other.is_always() {
+            self.copy(alloc)
+        } else {
+            self.combined(alloc, other, Connective::And, Change::Keep)
+        }
     }
 
     /// The function that one of the two is true, or both.
@@ -148,7 +153,10 @@ impl Bdd {
     {
         match all.lowest() {
             None => Bdd::constant(alloc, true),
-            Some(_) => {
+            Some(slot) => {
+                if is_single(all, slot) {
+                    return Bdd::variable(alloc, slot);
+                }
                 let nodes = chain(alloc, all)?;
                 Ok(Bdd { nodes })
             }

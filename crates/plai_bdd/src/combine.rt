@@ -1,23 +1,14 @@
 ghost use Rattle.std.specs.Prelude.{◌≡◌, ◌<◌, ◌≤◌, Bool, IfOk, OnOk, Some, length, get_or, min, nat_eq, ◌||◌};
 ghost use Rattle.std.specs.List.{list_any};
-ghost use Rattle.indexmap.specs.IndexMap.{get, Updates};
-ghost use Rattle.indexmap.specs.IndexSet.{keys};
 ghost use Rattle.plai_bdd.specs.declared.node.Node.TheVariants.{Leaf};
 ghost use Rattle.plai_bdd.specs.Change.{answer_of};
-ghost use Rattle.plai_bdd.specs.Table.{Adds, IsMemo, IsSource, IsTable, children_of, function_of, is_absorbing, joined_place, joined_table, least_of, no_node, same_pair, slot_of as slot_of_node, leaf_answer as leaf_answer_of};
+ghost use Rattle.plai_bdd.specs.Table.{Adds, IsMemo, IsSource, IsTable, children_of, function_of, is_absorbing, joined_place, joined_table, least_of, no_node, nodes_of, slot_of as slot_of_node, leaf_answer as leaf_answer_of};
 
 use crate::change::{Change, Connective, Placed};
+use crate::memo::{Memo, Pair, note, recall};
 use crate::node::Node;
-use crate::table::place;
-use indexmap::{IndexMap, IndexSet};
+use crate::table::{Table, place};
 use std::alloc::AllocError;
-
-/// Two places, one in each list.
-#[derive(Clone, Copy, Debug, PartialEq, Eq, Hash)]
-pub struct Pair {
-    pub left: usize,
-    pub right: usize,
-}
 
 /// The children of a node where its slot is this one, and else its own place twice.
 pub fn children(node: Node, slot: u32, place: usize) -> (usize, usize)
@@ -40,9 +31,9 @@ pub fn children(node: Node, slot: u32, place: usize) -> (usize, usize)
 }
 
 /// The place of a function whose answers with the slot false and true are at the two places.
-fn join(table: &mut IndexSet<Node>, slot: u32, low: usize, high: usize) -> Result<usize, AllocError>
-    ensures place { IfOk result (λ place. place ≡ joined_place slot low high (keys table.old)) }
-    ensures table { OnOk result (keys table.new ≡ joined_table slot low high (keys table.old)) }
+fn join(table: &mut Table, slot: u32, low: usize, high: usize) -> Result<usize, AllocError>
+    ensures place { IfOk result (λ place. place ≡ joined_place slot low high (nodes_of table.old)) }
+    ensures table { OnOk result (nodes_of table.new ≡ joined_table slot low high (nodes_of table.old)) }
 {
     if low == high {
         Ok(low)
@@ -74,21 +65,6 @@ pub fn first_slot(a: Node, b: Node) -> u32
     ensures { result ≡ min (slot_of_node a) (slot_of_node b) }
 {
     slot_of(a).min(slot_of(b))
-}
-
-/// Where the function of a pair is, if that is noted.
-fn recall(memo: &IndexMap<Pair, usize>, pair: Pair) -> Option<usize>
-    ensures { result ≡ get same_pair memo.now pair }
-{
-    memo.get(&pair).copied()
-}
-
-/// Notes where the function of a pair is.
-fn note(memo: &mut IndexMap<Pair, usize>, pair: Pair, place: usize) -> Result<(), AllocError>
-    ensures { OnOk result (Updates same_pair memo.old memo.new pair (Some place)) }
-{
-    memo.insert(pair, place)?;
-    Ok(())
 }
 
 /// The answer of a leaf. A branch has none, and gives false.
@@ -133,16 +109,16 @@ pub fn combine(
     left: &[Node],
     right: &[Node],
     pair: Pair,
-    table: &mut IndexSet<Node>,
-    memo: &mut IndexMap<Pair, usize>,
+    table: &mut Table,
+    memo: &mut Memo,
 ) -> Result<usize, AllocError>
     requires left_is { IsSource change left.now pair.left }
     requires right_is { IsSource change right.now pair.right }
-    requires table_is { IsTable (keys table.old) }
-    requires memo_is { IsMemo connective change left.now right.now memo.old (keys table.old) }
-    ensures added { IfOk result (λ place. Adds (keys table.old) place (keys table.new)
+    requires table_is { IsTable (nodes_of table.old) }
+    requires memo_is { IsMemo connective change left.now right.now memo.old (nodes_of table.old) }
+    ensures added { IfOk result (λ place. Adds (nodes_of table.old) place (nodes_of table.new)
         (least_of change left.now right.now pair.left pair.right) (function_of connective change left.now right.now pair.left pair.right)) }
-    ensures noted { OnOk result (IsMemo connective change left.now right.now memo.new (keys table.new)) }
+    ensures noted { OnOk result (IsMemo connective change left.now right.now memo.new (nodes_of table.new)) }
 {
     let a = node_at(left, pair.left);
     let b = node_at(right, pair.right);
@@ -165,16 +141,16 @@ fn combine_new(
     left: &[Node],
     right: &[Node],
     pair: Pair,
-    table: &mut IndexSet<Node>,
-    memo: &mut IndexMap<Pair, usize>,
+    table: &mut Table,
+    memo: &mut Memo,
 ) -> Result<usize, AllocError>
     requires left_is { IsSource change left.now pair.left }
     requires right_is { IsSource change right.now pair.right }
-    requires table_is { IsTable (keys table.old) }
-    requires memo_is { IsMemo connective change left.now right.now memo.old (keys table.old) }
-    ensures added { IfOk result (λ place. Adds (keys table.old) place (keys table.new)
+    requires table_is { IsTable (nodes_of table.old) }
+    requires memo_is { IsMemo connective change left.now right.now memo.old (nodes_of table.old) }
+    ensures added { IfOk result (λ place. Adds (nodes_of table.old) place (nodes_of table.new)
         (least_of change left.now right.now pair.left pair.right) (function_of connective change left.now right.now pair.left pair.right)) }
-    ensures noted { OnOk result (IsMemo connective change left.now right.now memo.new (keys table.new)) }
+    ensures noted { OnOk result (IsMemo connective change left.now right.now memo.new (nodes_of table.new)) }
 {
     let a = node_at(left, pair.left);
     let b = node_at(right, pair.right);

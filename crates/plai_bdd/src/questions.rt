@@ -6,7 +6,7 @@ ghost use Rattle.plai_bdd.specs.Nodes.{IsOver, holds, is_model};
 ghost use Rattle.plai_bdd.specs.Table.{slot_of};
 
 use crate::bdd::Bdd;
-use crate::combine::Pair;
+use crate::memo::Pair;
 use crate::used::{branch_slots, is_always};
 use crate::walk::{answer_at, either, implies_at, root_of_either};
 use plai_base::Mask;

@@ -1,6 +1,6 @@
 ghost use Rattle.std.specs.Prelude.{◌≡◌, ◌<◌, ◌||◌, [], ◌∷◌, ℕ, IsTrue, nat_eq, true, ◌↔◌};
 ghost use Rattle.std.specs.List.{list_any};
-ghost use Rattle.plai_base.specs.Mask.{has_slot};
+ghost use Rattle.plai_base.specs.Mask.{has_slot, mask_of};
 ghost use Rattle.plai_bdd.specs.declared.node.Node.TheVariants.{Leaf};
 ghost use Rattle.plai_bdd.specs.Table.{slot_of as slot_of_node};
 
@@ -21,6 +21,14 @@ fn with_branch(slots: Mask, node: Node) -> Mask
 {
     let slot = slot_of(node);
     if slot < 64 { slots.insert(slot) } else { slots }
+}
+
+/// Whether the set has this slot alone.
+pub fn is_single(slots: Mask, slot: u32) -> bool
+    requires { slot < 64 }
+    ensures { IsTrue result → slots ≡ mask_of slot }
+{
+    slots.bits() == Mask::of(slot).bits()
 }
 
 /// The slots that the nodes branch on.

@@ -7,7 +7,8 @@ ghost use Rattle.plai_bdd.specs.Walk.{AreShown, Implies, either_nodes, either_ro
 ghost use Rattle.plai_bdd.specs.declared.change.Change.TheVariants.{Keep};
 ghost use Rattle.plai_bdd.specs.declared.node.Node.TheVariants.{Leaf};
 
-use crate::combine::{Pair, children, first_slot, leaf_answer, node_at};
+use crate::combine::{children, first_slot, leaf_answer, node_at};
+use crate::memo::Pair;
 use crate::node::Node;
 use plai_base::Mask;
 

@@ -8,7 +8,7 @@ use Rattle.plai_bdd.proofs.Slots.{some_hold-Decides, or_right, same_truth}
 use Rattle.plai_bdd.proofs.Differing.{put_back}
 use Rattle.plai_bdd.proofs.Trees.{with_slot_same}
 
-same_or_not : (a b : ℕ) → (a ≡ b) ⊎ (a ≢ b)
+pub same_or_not : (a b : ℕ) → (a ≡ b) ⊎ (a ≢ b)
 same_or_not a b = grind arith
 
 module _ (mask rest slot : ℕ) (lt : slot < 64) (has : has_slot mask slot ≡ true)

@@ -1,6 +1,7 @@
 -- Conjunctions of several functions, and quantification of one slot of them.
 use Rattle.std.proofs.Common.{◌≡◌, ◌≢◌, ℕ, zero, suc, ◌<◌, nat_eq, IsTrue, Bool, true, false, cond, ◌&&◌, ◌||◌, List, [], ◌∷◌, ◌++◌, Option, Some, None, refl}
-use Rattle.std.proofs.Common.{sym, ap, ◌∙◌}
+use Rattle.std.proofs.Common.{◌+◌, length, get_or, take, sym, ap, ◌∙◌}
+use Rattle.std.proofs.lemmas.List.{take_more}
 use Rattle.std.proofs.Math.Bool.{and-true}
 use Rattle.std.proofs.lemmas.Nat.Bits.{bit_at-zero}
 use Rattle.plai_base.specs.Mask.{has_slot}
@@ -20,6 +21,16 @@ and_assoc false b c = refl
 pub together-push : (fs : List (List Node)) (f : List Node) (at : Assignment) → together (fs ++ f ∷ []) at ≡ (together fs at && holds f at)
 together-push [] f at = and-true (holds f at)
 together-push (g ∷ fs) f at = ap (λ b. holds g at && b) (together-push fs f at) ∙ and_assoc (holds g at) (together fs at) (holds f at)
+
+-- one function more that doesn't depend on the slot
+pub free_more : (slot i : ℕ) (all : List (List Node)) (f : List Node) → i < length all → f ≡ get_or all i f → IsFree (holds f) slot
+    → IsFree (together (take i all)) slot → IsFree (together (take (i + 1) all)) slot
+free_more slot i all f within is free old at answer =
+    more (with_slot at slot answer) ∙ (λ x. old at answer x && free at answer x) ∙ sym (more at)
+  where
+    more : (at : Assignment) → together (take (i + 1) all) at ≡ (together (take i all) at && holds f at)
+    more at = ap (λ fs. together fs at) (take_more all i f within) ∙ ap (λ g. together (take i all ++ g ∷ []) at) (sym is)
+        ∙ together-push (take i all) f at
 
 -- the functions that are left to look at, those that don't depend on the slot, and the others, joined
 pub record IsParting (slot : ℕ) (given left rest : List (List Node)) (joined : Option (List Node)) : Type 0 where

@@ -1,5 +1,7 @@
 ghost use Rattle.std.specs.Prelude.{◌≡◌, ◌≢◌, ◌<◌, ◌≤◌, ℕ, true, IsTrue, MatchOption};
 ghost use Rattle.plai_base.specs.Mask.{has_slot};
+ghost use Rattle.plai_bdd.specs.Assignment.{IsFree};
+ghost use Rattle.plai_factors.specs.Product.{together};
 
 use crate::factor::Factor;
 use plai_base::Mask;
@@ -22,29 +24,34 @@ pub(crate) fn without_slot(slots: Mask, slot: u32) -> Mask
     Mask::from_bits(slots.bits() & !(1 << slot))
 }
 
-/// One factor more, on each slot that it depends on.
-fn add_factor(costs: &mut [Cost; 64], factor: &Factor) {
-    let nodes = factor.nodes();
-    let mut rest = factor.slots();
-    while let Some(slot) = rest.lowest() {
-        let cost = &mut costs[slot as usize];
-        cost.factors = cost.factors.saturating_add(1);
-        cost.nodes = cost.nodes.saturating_add(nodes);
-        rest = without_slot(rest, slot);
+/// Whether no factor depends on the slot.
+pub(crate) fn is_unused(factors: &[Factor], slot: u32) -> bool
+    requires { slot < 64 }
+    ensures { IsTrue result → IsFree (together factors.now) slot }
+{
+    for factor in factors {
+        if factor.depends_on(slot) {
+            return false;
+        }
     }
+    true
 }
 
-/// For each slot what it costs to quantify it.
-fn costs(factors: &[Factor]) -> [Cost; 64] {
-    let free = Cost {
+/// What it costs to quantify the slot.
+fn cost_of(factors: &[Factor], slot: u32) -> Cost
+    requires { slot < 64 }
+{
+    let mut cost = Cost {
         factors: 0,
         nodes: 0,
     };
-    let mut costs = [free; 64];
     for factor in factors {
-        add_factor(&mut costs, factor);
+        if factor.depends_on(slot) {
+            cost.factors = cost.factors.saturating_add(1);
+            cost.nodes = cost.nodes.saturating_add(factor.nodes());
+        }
     }
-    costs
+    cost
 }
 
 /// The slot of the set that costs least, the lowest of those that cost the same, or none exactly where the set is empty.
@@ -52,11 +59,15 @@ pub(crate) fn cheapest(factors: &[Factor], slots: Mask) -> Option<u32>
     ensures { MatchOption result (slots ≡ 0) (λ slot. (slot < 64) × IsTrue (has_slot slots slot)) }
 {
     let mut best = slots.lowest()?;
-    let costs = costs(factors);
-    for slot in best + 1..64 {
-        if slots.contains(slot) && costs[slot as usize] < costs[best as usize] {
+    let mut least = cost_of(factors, best);
+    let mut rest = without_slot(slots, best);
+    while let Some(slot) = rest.lowest() {
+        let own = cost_of(factors, slot);
+        if own < least {
             best = slot;
+            least = own;
         }
+        rest = without_slot(rest, slot);
     }
     Some(best)
 }

@@ -5,7 +5,7 @@ ghost use Rattle.plai_bdd.specs.Nodes.{IsFunction, holds};
 ghost use Rattle.plai_bdd.specs.Slots.{Somewhere, quantified, some_slot};
 ghost use Rattle.plai_factors.specs.Product.{joined_holds, together};
 
-use crate::cost::{cheapest, without_slot};
+use crate::cost::{cheapest, is_unused, without_slot};
 use crate::factor::Factor;
 use plai_base::Mask;
 use plai_bdd::Bdd;
@@ -35,6 +35,9 @@ fn without(
     requires there { IsTrue (has_slot slots slot) }
     ensures { IfOk result (λ rest. (at : Assignment) → together rest.items at ≡ some_slot slots slot (together factors.items) at) }
 {
+    if is_unused(factors.as_slice(), slot) {
+        return Ok(factors);
+    }
     let mut rest = Vec::new(alloc);
     let mut joined = None;
     while let Some(factor) = factors.pop() {

@@ -10,6 +10,7 @@ use Rattle.plai_table.specs.Rows.{TableRow, row_changed, with_entry}
 use Rattle.plai_eval.specs.Meaning.{as_domain}
 use Rattle.plai_fix.specs.WorkStates.{KeptRow, IsNamed}
 use Rattle.plai_fix.specs.Tables.{key_name, kept_row, kept_rows}
+use Rattle.plai_fix.specs.Solving.{HasLiveRow}
 use Rattle.plai_fix.specs.Stops.{AreMarkedAs}
 use Rattle.plai_fix.proofs.Places.{has_some}
 use Rattle.plai_fix.proofs.LookedUp.{in_left, in_last, in_push}
@@ -105,23 +106,18 @@ module _ (V : Type 0) (value_of : V → Abs) (p : PlainDomain) where
 
 -- whether each name has a row, with one more name
 module _ (p : PlainDomain) (old now : List (KeptRow (as_domain p))) (same : now ≡ old) (names : List (Name PredKey Abs)) (y : Name PredKey Abs) where
-  as_old : (j : ℕ) (x : Name PredKey Abs) → IsNamed (as_domain p) now j x → IsNamed (as_domain p) old j x
-  as_old j x named = subst (λ ks. IsNamed (as_domain p) ks j x) same named
-
-  as_now : (j : ℕ) (x : Name PredKey Abs) → IsNamed (as_domain p) old j x → IsNamed (as_domain p) now j x
-  as_now j x named = subst (λ ks. IsNamed (as_domain p) ks j x) (sym same) named
-
-  pub all_found : (all found : Bool) → (all ≡ true → (x : Name PredKey Abs) → IsIn x names → (j : ℕ) × IsNamed (as_domain p) old j x)
-      → (found ≡ true → (j : ℕ) × IsNamed (as_domain p) now j y)
-      → (all && found) ≡ true → (x : Name PredKey Abs) → IsIn x (names ++ y ∷ []) → (j : ℕ) × IsNamed (as_domain p) old j x
+  pub all_found : (all found : Bool) → (all ≡ true → (x : Name PredKey Abs) → IsIn x names → HasLiveRow (as_domain p) old x)
+      → (found ≡ true → HasLiveRow (as_domain p) now y)
+      → (all && found) ≡ true → (x : Name PredKey Abs) → IsIn x (names ++ y ∷ []) → HasLiveRow (as_domain p) old x
   all_found false found h k t = cc
   all_found true false h k t = cc
   all_found true true h k t = λ x i.
-      in_push names y x i (h refl x) (λ s. let (j, n) = k refl in (j, subst (IsNamed (as_domain p) old j) s (as_old j y n)))
+      in_push names y x i (h refl x)
+      (λ s. subst (HasLiveRow (as_domain p) old) s (subst (λ ks. HasLiveRow (as_domain p) ks y) same (k refl)))
 
-  pub one_absent : (all found : Bool) → (all ≡ false → (x : Name PredKey Abs) × IsIn x names × ((j : ℕ) → IsNamed (as_domain p) old j x → ⊥))
-      → (found ≡ false → (j : ℕ) → IsNamed (as_domain p) now j y → ⊥)
-      → (all && found) ≡ false → (x : Name PredKey Abs) × IsIn x (names ++ y ∷ []) × ((j : ℕ) → IsNamed (as_domain p) old j x → ⊥)
+  pub one_absent : (all found : Bool) → (all ≡ false → (x : Name PredKey Abs) × IsIn x names × (HasLiveRow (as_domain p) old x → ⊥))
+      → (found ≡ false → HasLiveRow (as_domain p) now y → ⊥)
+      → (all && found) ≡ false → (x : Name PredKey Abs) × IsIn x (names ++ y ∷ []) × (HasLiveRow (as_domain p) old x → ⊥)
   one_absent false found h k t = let (x, i, none) = h refl in (x, in_left names (y ∷ []) x i, none)
-  one_absent true false h k t = (y, in_last names y, λ j n. k refl j (as_now j y n))
+  one_absent true false h k t = (y, in_last names y, λ has. k refl (subst (λ ks. HasLiveRow (as_domain p) ks y) (sym same) has))
   one_absent true true h k t = cc

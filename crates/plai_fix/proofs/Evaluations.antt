@@ -4,7 +4,7 @@ use Rattle.std.proofs.Common.{None, IsSome, length, sym, refl, ap, ◌∙◌, su
 use Rattle.std.proofs.lemmas.Bool.{eq-eqb}
 use Rattle.plai_theory.specs.Words.{IsIn, HasSome, given, item}
 use Rattle.plai_theory.specs.Domain.{Domain, Program, Name, IsLawful}
-use Rattle.plai_theory.specs.LegalWork.{WorkRow, Work, Evaluated, find, present_source, after_evaluating, calls_now, no_work, after_all}
+use Rattle.plai_theory.specs.LegalWork.{WorkRow, Work, Evaluated, find, present_source, after_evaluating, calls_now, after_all}
 use Rattle.plai_theory.proofs.Walk.{after_push}
 use Rattle.plai_terms.specs.declared.abs.Abs.{Abs}
 use Rattle.plai_terms.specs.declared.pred_key.PredKey.{PredKey}
@@ -25,20 +25,20 @@ use Rattle.plai_eval.proofs.Lawful.{lawful_at}
 use Rattle.plai_fix.specs.declared.change.Change.TheVariants.{Nothing}
 use Rattle.plai_fix.specs.declared.solve_fail.SolveFail.{SolveFail}
 use Rattle.plai_fix.specs.declared.solve_fail.SolveFail.TheVariants as solve_fail
-use Rattle.plai_fix.specs.WorkStates.{KeptRow, Keeping, Keeps, IsNamed, clause_at}
+use Rattle.plai_fix.specs.WorkStates.{KeptRow, Keeping, Keeps, IsNamed, is_live, clause_at}
 use Rattle.plai_fix.specs.Changes.{Clears}
 use Rattle.plai_fix.specs.Logs.{IsWorking}
 use Rattle.plai_fix.specs.Pairs.{HasEvaluated}
 use Rattle.plai_fix.specs.Measures.{kept_room, kept_ranks}
 use Rattle.plai_fix.specs.Tables.{answers_of}
 use Rattle.plai_fix.specs.Evaluating.{IsEvaluation, TellsOver}
-use Rattle.plai_fix.specs.Told.{HasLog}
+use Rattle.plai_fix.specs.Told.{start_of, Origin, HasLog}
 use Rattle.plai_fix.specs.Solving.{IsAtWork, IsPastEvaluation}
 use Rattle.plai_fix.specs.Moves.{Moves}
 use Rattle.plai_fix.specs.Stops.{IsOverBehind, Stops}
 use Rattle.plai_fix.proofs.Lists.{slice_item, item_within}
 use Rattle.plai_fix.proofs.Places.{found_at}
-use Rattle.plai_fix.proofs.Linked.{row_under}
+use Rattle.plai_fix.proofs.Linked.{row_under, live_at}
 use Rattle.plai_fix.proofs.Lowering.{evaluated_dirties}
 use Rattle.plai_fix.proofs.Pairs.{evaluates}
 use Rattle.plai_fix.proofs.Values.{kept_answers, name_is_value, answer_is_value}
@@ -79,7 +79,7 @@ clause_number d g x zero e = let h : IsSome {T = d.Clause} None = e in cc
 clause_number d g x (suc i) e = let l = item_within (g.clauses x) i e in (omega arith, omega arith)
 
 module _ (p : PlainDomain) (laws : domain.IsLawful p) (program : ProgramView) (good : IsWellFormed program) (limit : ℕ)
-    (begun told : Option (List WorkEntry)) (steps : ℕ)
+    (begun : Origin) (told : Option (List WorkEntry)) (steps : ℕ)
     (k : Keeping (as_domain p)) (unmet : ℕ → ℕ → Bool) (at_work : IsAtWork p program limit begun told steps k unmet) where
   abbrev d : Domain
   d = as_domain p
@@ -91,21 +91,25 @@ module _ (p : PlainDomain) (laws : domain.IsLawful p) (program : ProgramView) (g
   lawful = lawful_at p laws program good
 
   abbrev rows : List (WorkRow d)
-  rows = (after_all d g (no_work d) at_work.log).rows
+  rows = (after_all d g (start_of p begun) at_work.log).rows
 
   -- what evaluations ask of names and answers
   pub name_fits : (n : ℕ) (x : Name PredKey Abs) → IsNamed d k.rows n x → IsValue p x.pred.arity x.call
-  name_fits n x named = name_is_value d g lawful (as_limits p) limit at_work.log k None at_work.is.logged n x named
+  name_fits n x named = name_is_value d g lawful (as_limits p) limit (start_of p begun) at_work.log k None at_work.is.logged n x named
 
   pub answers_fit : AnswersFit p (answers_of p k.rows)
   answers_fit = record {
-    fit = λ name answer is e. answer_is_value d g lawful (as_limits p) limit at_work.log k None at_work.is.logged name.pred name.call
+    fit = λ name answer is e. answer_is_value d g lawful (as_limits p) limit (start_of p begun) at_work.log k None at_work.is.logged name.pred name.call
         answer is e;
   }
 
-  module _ (n number : ℕ) (x : Name PredKey Abs) (named : IsNamed d k.rows n x) (dirty : k.dirty n number ≡ true) where
+  module _ (n number : ℕ) (x : Name PredKey Abs) (named : IsNamed d k.rows n x) (dirty : k.dirty n number ≡ true)
+      (live : is_live (as_domain p) k.rows n ≡ true) where
     pub number_fits : (1 ≤ number) × (number ≤ length (clauses_of program x.pred))
     number_fits = clause_number d g x.pred number (clause_there d g lawful k None rows at_work.is.logged.keeps n x named number dirty)
+
+    row_live : (r : WorkRow d) → item rows n ≡ Some r → r.live ≡ true
+    row_live r place = sym (live_at d g lawful k None rows at_work.is.logged.keeps n r place) ∙ live
 
     module _ (clause : Clause) (is_clause : slice_get (clauses_of program x.pred) (number - 1) ≡ Some clause) where
       one_more : suc (number - 1) ≡ number
@@ -133,15 +137,17 @@ module _ (p : PlainDomain) (laws : domain.IsLawful p) (program : ProgramView) (g
 
         -- the evaluation at the name of the row under work
         at_row : (r : WorkRow d) → item rows n ≡ Some r → r.name ≡ x
-            → HasEvaluated d g (as_limits p) limit (at_work.log ++ Evaluated x (number - 1) ∷ []) new (Some (n, number - 1)) left n (number - 1) called answer
+            → HasEvaluated d g (as_limits p) limit (start_of p begun) (at_work.log ++ Evaluated x (number - 1) ∷ []) new (Some (n, number - 1)) left n
+            (number - 1) called answer
         at_row r place same =
             let P : Name PredKey Abs → Type 0 = λ y. item (clauses_of program y.pred) (number - 1) ≡ Some clause in
-            let Q : Name PredKey Abs → Type 0 = λ y. HasEvaluated d g (as_limits p) limit (at_work.log ++ Evaluated y (number - 1) ∷ []) new
+            let Q : Name PredKey Abs → Type 0 = λ y. HasEvaluated d g (as_limits p) limit (start_of p begun) (at_work.log ++ Evaluated y (number - 1) ∷ []) new
             (Some (n, number - 1)) left n (number - 1) called answer in
             let e : IsEvaluation p k.rows clause r.name.call answer called = subst (λ (y : Name PredKey Abs). IsEvaluation p k.rows clause y.call answer
             called) (sym same) evaluation in
             subst Q same
-            (evaluates d g lawful (as_limits p) limit at_work.log k new unmet left at_work.is n (number - 1) r place clause (subst P (sym same) at_clause)
+            (evaluates d g lawful (as_limits p) limit (start_of p begun) at_work.log k new unmet left at_work.is n (number - 1) r place (row_live r place)
+            clause (subst P (sym same) at_clause)
             (ap (k.dirty n) one_more ∙ dirty) e.within clears others own answer called e.answer e.calls)
 
         pub evaluates_told : (new_told : Option (List WorkEntry)) (later : ℕ) → new_told ≡ noted (entries.Evaluated (row_name x) number) told
@@ -149,8 +155,9 @@ module _ (p : PlainDomain) (laws : domain.IsLawful p) (program : ProgramView) (g
             → IsPastEvaluation p program limit begun new_told later new left (Some (n, number - 1)) n (number - 1) called answer
         evaluates_told new_told later noted_is few =
             let (r, place, same, rest) = named_row d g lawful k None rows at_work.is.logged.keeps n x named in
-            has_more p program begun told steps (λ log. IsWorking d g (as_limits p) limit (no_work d) log k None None unmet)
-            (λ log. HasEvaluated d g (as_limits p) limit log new (Some (n, number - 1)) left n (number - 1) called answer) at_work new_told later
+            has_more p program begun.told told steps (λ log. IsWorking d g (as_limits p) limit (start_of p begun) log k None None unmet)
+            (λ log. HasEvaluated d g (as_limits p) limit (start_of p begun) log new (Some (n, number - 1)) left n (number - 1) called answer) at_work
+            new_told later
             (Evaluated x (number - 1))
             (entries.Evaluated (row_name x) number) (ap (λ m. entries.Evaluated (row_name x) m ∷ []) one_more) noted_is
             (let c : given 0 (λ (z : Clause). cost_of z + 1) (item (clauses_of program x.pred) (number - 1)) ≡ cost_of clause + 1 = ap
@@ -166,12 +173,12 @@ module _ (p : PlainDomain) (laws : domain.IsLawful p) (program : ProgramView) (g
             let Q : Name PredKey Abs → Type 0 = λ y. Keeps d g new (Some (n, number - 1))
             (map (after_evaluating d y (number - 1) (calls_now d g rows y (number - 1))) rows) in
             let keeps : Keeps d g new (Some (n, number - 1)) (map (after_evaluating d x (number - 1) (calls_now d g rows x (number - 1))) rows) =
-            subst (λ (w : Work d). Keeps d g new (Some (n, number - 1)) w.rows) (after_push d g limit (no_work d) at_work.log
+            subst (λ (w : Work d). Keeps d g new (Some (n, number - 1)) w.rows) (after_push d g limit (start_of p begun) at_work.log
             (Evaluated x (number - 1))) has.evaluated.logged.keeps in
             let s = subst P (sym same) at_clause in (
               ap (kept_room d limit) clears.rows,
               ap (kept_ranks d (λ pred. p.rank)) clears.rows,
-              evaluated_dirties d g lawful k new None (Some (n, number - 1)) rows at_work.is.logged.keeps n r place (at_work.is.logged.live n r place)
+              evaluated_dirties d g lawful k new None (Some (n, number - 1)) rows at_work.is.logged.keeps n r place (row_live r place)
                   (number - 1) clause s
                   (sym (dirties (number - 1) clause s) ∙ ap (k.dirty n) one_more ∙ dirty) (calls_now d g rows r.name (number - 1)) (subst Q (sym same) keeps),
             )
@@ -184,7 +191,8 @@ module _ (p : PlainDomain) (laws : domain.IsLawful p) (program : ProgramView) (g
         where
           at : (f : SolveFail) → TellsOver p k.rows x number clause f → Stops p program limit begun told later f
           at solve_fail.Memory h =
-              has_less p program begun told steps (λ log. IsWorking d g (as_limits p) limit (no_work d) log k None None unmet) _ at_work 0 (omega arith)
+              has_less p program begun.told told steps (λ log. IsWorking d g (as_limits p) limit (start_of p begun) log k None None unmet) _ at_work 0
+              (omega arith)
               (λ w. w.logged.legal)
           at (solve_fail.Rows m) h = absurd h
           at (solve_fail.Groups row at_number literal place) (is_row, is_number, over) =
@@ -193,8 +201,8 @@ module _ (p : PlainDomain) (laws : domain.IsLawful p) (program : ProgramView) (g
               let P : Name PredKey Abs → Type 0 = λ y. item (clauses_of program y.pred) (number - 1) ≡ Some clause in
               let s = subst P (sym same) at_clause in
               let source : answers_of p k.rows ≡ (λ y. present_source d rows y.pred y.call) = λ j y. kept_answers d g lawful
-              (as_limits p) limit at_work.log k None at_work.is.logged y.pred y.call j in
-              let behind : IsOverBehind p program limit later row number literal place at_work.log =
+              (as_limits p) limit (start_of p begun) at_work.log k None at_work.is.logged y.pred y.call j in
+              let behind : IsOverBehind p program limit (start_of p begun) later row number literal place at_work.log =
               record {
                 legal = at_work.is.logged.legal;
                 fits = at_work.is.logged.fits;
@@ -202,7 +210,7 @@ module _ (p : PlainDomain) (laws : domain.IsLawful p) (program : ProgramView) (g
                 is_row = is_row;
                 under = r;
                 there = subst (λ (y : Name PredKey Abs). find d rows y ≡ Some r) same (found_at d g lawful rows at_work.is.logged.keeps.own n r at_place);
-                live = at_work.is.logged.live n r at_place;
+                live = row_live r at_place;
                 some = one;
                 dirty = sym (dirties (number - 1) clause s) ∙ ap (k.dirty n) one_more ∙ dirty;
                 clause = clause;
@@ -210,5 +218,5 @@ module _ (p : PlainDomain) (laws : domain.IsLawful p) (program : ProgramView) (g
                 over = ap (λ source'. (evaluation p source' clause x.call).over) (sym source) ∙ over;
                 within_all = let h = at_work.within in omega arith;
               } in
-              subst (λ m. HasLog p program begun told 0 (IsOverBehind p program limit later row m literal place)) (sym is_number)
+              subst (λ m. HasLog p program begun.told told 0 (IsOverBehind p program limit (start_of p begun) later row m literal place)) (sym is_number)
               (record { log = at_work.log; is = behind; is_told = at_work.is_told; within = omega arith })

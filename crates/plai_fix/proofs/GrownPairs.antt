@@ -4,7 +4,7 @@ use Rattle.std.specs.Option.{option_map}
 use Rattle.plai_theory.specs.Words.{UpTo, given, item}
 use Rattle.plai_theory.specs.Domain.{Domain, Program, Name, IsLawful}
 use Rattle.plai_theory.specs.Evaluation.{join_of}
-use Rattle.plai_theory.specs.LegalWork.{WorkRow, Work, Grew, present_source, after_growing, no_work, after_all}
+use Rattle.plai_theory.specs.LegalWork.{WorkRow, Work, Grew, present_source, after_growing, after_all}
 use Rattle.plai_theory.proofs.Walk.{after_push}
 use Rattle.plai_terms.specs.declared.abs.Abs.{Abs}
 use Rattle.plai_terms.specs.declared.pred_key.PredKey.{PredKey}
@@ -22,6 +22,7 @@ use Rattle.plai_fix.specs.declared.change.Change.TheVariants.{Grown, Opened}
 use Rattle.plai_fix.specs.WorkStates.{KeptRow, Keeping, Keeps}
 use Rattle.plai_fix.specs.Changes.{Answers}
 use Rattle.plai_fix.specs.Pairs.{HasEvaluated, IsWaiting}
+use Rattle.plai_fix.specs.Told.{start_of, Origin}
 use Rattle.plai_fix.specs.Solving.{IsPastEvaluation, IsPastGrowth}
 use Rattle.plai_fix.specs.Moves.{Shifts, growth_of}
 use Rattle.plai_fix.proofs.Places.{found_at, has_some}
@@ -50,7 +51,7 @@ joined_up d g laws q u a (Some b) low fits e other =
     subst (d.leq q u) t (laws.join_first low fits)
 
 module _ (p : PlainDomain) (laws : domain.IsLawful p) (program : ProgramView) (good : IsWellFormed program) (limit : ℕ)
-    (begun told : Option (List WorkEntry)) (steps : ℕ)
+    (begun : Origin) (told : Option (List WorkEntry)) (steps : ℕ)
     (k : Keeping (as_domain p)) (unmet : ℕ → ℕ → Bool) (n i : ℕ) (called : List (Name PredKey Abs)) (answer : Option Abs)
     (past : IsPastEvaluation p program limit begun told steps k unmet None n i called answer) (kept : KeptRow (as_domain p))
     (at : item k.rows n ≡ Some kept) where
@@ -64,7 +65,7 @@ module _ (p : PlainDomain) (laws : domain.IsLawful p) (program : ProgramView) (g
   lawful = lawful_at p laws program good
 
   abbrev rows : List (WorkRow d)
-  rows = (after_all d g (no_work d) past.log).rows
+  rows = (after_all d g (start_of p begun) past.log).rows
 
   keeps : Keeps d g k None rows
   keeps = past.is.evaluated.logged.keeps
@@ -84,13 +85,13 @@ module _ (p : PlainDomain) (laws : domain.IsLawful p) (program : ProgramView) (g
 
   value_name : d.leq r.name.pred r.name.call r.name.call
   value_name =
-      name_is_value d g lawful (as_limits p) limit past.log k None past.is.evaluated.logged n r.name
+      name_is_value d g lawful (as_limits p) limit (start_of p begun) past.log k None past.is.evaluated.logged n r.name
       (has_some (λ (z : KeptRow d). z.name ≡ r.name) (item k.rows n) kept at same_row.0)
 
   value_had : (u : Abs) → kept.answer ≡ Some u → d.leq r.name.pred u u
   value_had u had =
-      answer_is_value d g lawful (as_limits p) limit past.log k None past.is.evaluated.logged r.name.pred r.name.call u value_name
-      (kept_answers d g lawful (as_limits p) limit past.log k None past.is.evaluated.logged r.name.pred r.name.call ∙ present ∙ had)
+      answer_is_value d g lawful (as_limits p) limit (start_of p begun) past.log k None past.is.evaluated.logged r.name.pred r.name.call u value_name
+      (kept_answers d g lawful (as_limits p) limit (start_of p begun) past.log k None past.is.evaluated.logged r.name.pred r.name.call ∙ present ∙ had)
 
   -- the answers that are joined are values of one arity
   pub alike_told : (a b : Abs) → kept.answer ≡ Some a → answer ≡ Some b → AreAlike p a b
@@ -101,32 +102,33 @@ module _ (p : PlainDomain) (laws : domain.IsLawful p) (program : ProgramView) (g
   -- no growth is due
   pub settles_told : join_of d kept.answer answer ≡ kept.answer → IsPastGrowth p program limit begun told steps k unmet None n i called
   settles_told same =
-      has_less p program begun told steps (λ log. HasEvaluated d g (as_limits p) limit log k None unmet n i called answer)
-      (λ log. IsWaiting d g (as_limits p) limit log k None unmet n i called) past
-      steps (omega arith) (λ has. settles d g lawful (as_limits p) limit past.log k None unmet n i called answer past.is
+      has_less p program begun.told told steps (λ log. HasEvaluated d g (as_limits p) limit (start_of p begun) log k None unmet n i called answer)
+      (λ log. IsWaiting d g (as_limits p) limit (start_of p begun) log k None unmet n i called) past
+      steps (omega arith) (λ has. settles d g lawful (as_limits p) limit (start_of p begun) past.log k None unmet n i called answer past.is
       (ap (λ (o : Option Abs). join_of d o answer) present ∙ same ∙ sym present))
 
   module _ (new : Keeping d) (a : Abs) (is : ◌≡◌ {A = Option Abs} (Some a) (join_of d kept.answer answer))
       (other : ◌≡◌ {A = Option Abs} (Some a) kept.answer → ⊥) (answers : Answers d k new n (Some a)) where
-    waits : IsWaiting d g (as_limits p) limit (past.log ++ Grew r.name (Some a) ∷ []) new None unmet n i called
+    waits : IsWaiting d g (as_limits p) limit (start_of p begun) (past.log ++ Grew r.name (Some a) ∷ []) new None unmet n i called
     waits =
-        grows d g lawful (as_limits p) limit past.log k new unmet n i called answer (Some a) past.is
+        grows d g lawful (as_limits p) limit (start_of p begun) past.log k new unmet n i called answer (Some a) past.is
         (is ∙ ap (λ (o : Option Abs). join_of d o answer) (sym present)) (λ e. other (e ∙ present)) answers
 
     -- the growth that is due
     pub grows_told : (new_told : Option (List WorkEntry)) → new_told ≡ noted (entries.Grew (row_name kept.name) a) told
         → IsPastGrowth p program limit begun new_told steps new unmet None n i called
     grows_told new_told e =
-        has_more p program begun told steps (λ log. HasEvaluated d g (as_limits p) limit log k None unmet n i called answer)
-        (λ log. IsWaiting d g (as_limits p) limit log new None unmet n i called) past
+        has_more p program begun.told told steps (λ log. HasEvaluated d g (as_limits p) limit (start_of p begun) log k None unmet n i called answer)
+        (λ log. IsWaiting d g (as_limits p) limit (start_of p begun) log new None unmet n i called) past
         new_told steps (Grew r.name (Some a)) (entries.Grew (row_name r.name) a) refl (e
         ∙ ap (λ (x : Name PredKey Abs). noted (entries.Grew (row_name x) a) told) same_row.0) (omega arith) waits
 
     after : Keeps d g new None (map (after_growing d r.name (Some a)) rows)
-    after = subst (λ (w : Work d). Keeps d g new None w.rows) (after_push d g limit (no_work d) past.log (Grew r.name (Some a))) waits.working.logged.keeps
+    after = subst (λ (w : Work d). Keeps d g new None w.rows) (after_push d g limit (start_of p begun) past.log (Grew r.name (Some a)))
+        waits.working.logged.keeps
 
     live : r.live ≡ true
-    live = past.is.evaluated.logged.live n r past.is.pair.at
+    live = past.is.pair.live
 
     -- a first answer
     pub first_shifts : kept.answer ≡ None → Shifts d g limit (λ pred. p.rank) k new Opened

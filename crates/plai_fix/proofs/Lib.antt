@@ -1,8 +1,11 @@
 pub mod Places
 pub mod Steps
 pub mod Growths
-pub mod LiveRows
 pub mod Working
+pub mod Grown
+pub mod Wakings
+pub mod Woken
+pub mod ValueLogs
 pub mod Waiting
 pub mod Ends
 pub mod Values
@@ -26,6 +29,9 @@ pub mod Evaluations
 pub mod GrownPairs
 pub mod Placed
 pub mod Closes
+pub mod Meetings
+pub mod Awaited
+pub mod Roused
 pub mod Popped
 pub mod Shifted
 pub mod Works

@@ -1,14 +1,14 @@
 -- Rows of called names, as they are found and made one after another.
 use Rattle.std.proofs.Common.{◌≡◌, ◌⊎◌, ℕ, zero, suc, ◌+◌, Bool, true, false, cond, nat_eq, eqb-true, ◌||◌, count_by, List, [], ◌∷◌, ◌++◌, length, Option}
-use Rattle.std.proofs.Common.{Some, None, sym, refl, ap₂, ◌∙◌, subst, inl, inr}
+use Rattle.std.proofs.Common.{Some, None, sym, refl, ap, ap₂, ◌∙◌, subst, inl, inr}
 use Rattle.std.proofs.lemmas.Bool.{eq-eqb}
 use Rattle.std.proofs.lemmas.List.Sums.{sum_by-cons}
-use Rattle.plai_theory.specs.Words.{IsIn, item, HasSome}
+use Rattle.plai_theory.specs.Words.{IsIn, item, given, HasSome}
 use Rattle.plai_theory.specs.Domain.{Domain, Program, IsLawful}
 use Rattle.plai_theory.specs.Evaluation.{NameOf}
 use Rattle.plai_theory.specs.LegalWork.{WorkRow, find, live_count}
 use Rattle.plai_theory.proofs.Rows.{find_name}
-use Rattle.plai_fix.specs.WorkStates.{KeptRow, Keeping, IsNamed, KeepsRow, AtBoth, Keeps, kept_live}
+use Rattle.plai_fix.specs.WorkStates.{KeptRow, Keeping, IsNamed, KeepsRow, AtBoth, Keeps, is_live, kept_live}
 use Rattle.plai_fix.specs.Pairs.{Links}
 use Rattle.plai_fix.proofs.Places.{push_before, push_at, has_some, place_of, found_at}
 use Rattle.plai_fix.proofs.Steps.{row_at}
@@ -142,6 +142,10 @@ module _ (d : Domain) (g : Program d) (laws : IsLawful d g) (k : Keeping d) (ope
       at None u e h = cc
       at (Some z) None e h = absurd h
       at (Some z) (Some r) e h = let same : z ≡ kept = cc in (r, refl, subst (λ w. KeepsRow d g k open_pair n w r) same h)
+
+  -- it is live where the kept row is
+  pub live_at : (n : ℕ) (r : WorkRow d) → item rows n ≡ Some r → is_live d k.rows n ≡ r.live
+  live_at n r e = let (kept, f, h) = row_at d g laws k open_pair rows keeps n r e in ap (given false (λ (z : KeptRow d). z.live)) f ∙ h.live
 
   pub named_find : (n : ℕ) (y : NameOf d) → IsNamed d k.rows n y → (r : WorkRow d) × (find d rows y ≡ Some r) × (item rows n ≡ Some r)
   named_find n y named = at (item k.rows n) refl named

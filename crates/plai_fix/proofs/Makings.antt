@@ -16,7 +16,7 @@ use Rattle.plai_fix.specs.Tables.{key_name, kept_row, kept_rows}
 use Rattle.plai_fix.specs.Marks.{is_number}
 use Rattle.plai_fix.proofs.Marked.{of_range, in_range}
 
-map_push : {A B : Type 0} (f : A → B) (xs : List A) (x : A) → map f (xs ++ x ∷ []) ≡ map f xs ++ f x ∷ []
+pub map_push : {A B : Type 0} (f : A → B) (xs : List A) (x : A) → map f (xs ++ x ∷ []) ≡ map f xs ++ f x ∷ []
 map_push f [] x = refl
 map_push f (y ∷ xs) x = ap (λ rest. f y ∷ rest) (map_push f xs x)
 

@@ -38,6 +38,18 @@ pub ok_more : {T E : Type 0} (P Q : Type 0) (r : Result T E) → OnOk r P → (P
 ok_more P Q (Ok x) h k = k h
 ok_more P Q (Err e) h k = tt
 
+pub ok_any : {T E : Type 0} (P : Type 0) (r : Result T E) → P → OnOk r P
+ok_any P (Ok x) h = h
+ok_any P (Err e) h = tt
+
+pub ok_both : {T E : Type 0} (P Q R : Type 0) (r : Result T E) → OnOk r P → OnOk r Q → (P → Q → R) → OnOk r R
+ok_both P Q R (Ok x) h k f = f h k
+ok_both P Q R (Err e) h k f = tt
+
+pub err_more : {T E : Type 0} (P Q : Type 0) (r : Result T E) → OnErr r P → (P → Q) → OnErr r Q
+err_more P Q (Ok x) h k = tt
+err_more P Q (Err e) h k = k h
+
 pub ok_items : {T E : Type 0} (P Q : T → Type 0) (r : Result T E) → IfOk r P → ((x : T) → P x → Q x) → IfOk r Q
 ok_items P Q (Ok x) h k = k x h
 ok_items P Q (Err e) h k = tt

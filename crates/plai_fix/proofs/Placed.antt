@@ -5,7 +5,7 @@ use Rattle.std.specs.List.{list_any}
 use Rattle.std.proofs.lemmas.Bool.{eq-eqb}
 use Rattle.plai_theory.specs.Domain.{Domain, Program, Name, IsLawful}
 use Rattle.plai_theory.specs.Evaluation.{NameOf}
-use Rattle.plai_theory.specs.LegalWork.{Made, IsLegalLog, no_work}
+use Rattle.plai_theory.specs.LegalWork.{Made, IsLegalLog}
 use Rattle.plai_theory.specs.Measure.{one_at_none}
 use Rattle.plai_terms.specs.declared.abs.Abs.{Abs}
 use Rattle.plai_terms.specs.declared.pred_key.PredKey.{PredKey}
@@ -22,7 +22,7 @@ use Rattle.plai_fix.specs.WorkStates.{KeptRow, Keeping, IsNamed, kept_live, Exte
 use Rattle.plai_fix.specs.Changes.{Makes}
 use Rattle.plai_fix.specs.Pairs.{Links, IsWaiting}
 use Rattle.plai_fix.specs.Measures.{kept_sum, kept_nones, kept_room}
-use Rattle.plai_fix.specs.Told.{HasLog}
+use Rattle.plai_fix.specs.Told.{start_of, Origin, HasLog}
 use Rattle.plai_fix.specs.Solving.{Places, IsThere, IsMade, IsLacking, AreOfRows, IsPlacing}
 use Rattle.plai_fix.specs.Moves.{Adds}
 use Rattle.plai_fix.proofs.Lists.{length_push, count_push}
@@ -50,42 +50,46 @@ makes_room d g limit k new x makes room =
 
 module _ (d : Domain) (limit : ℕ) where
   pub adds_none : (k : Keeping d) → Adds d limit k k
-  adds_none k = record { longer = omega arith; room = λ h. absurd (omega arith); rows = λ e. refl; dirty = λ e n m. refl }
+  adds_none k = record { more = omega arith; room = λ h. absurd (omega arith); rows = λ e. refl; dirty = λ e n m. refl }
 
   pub adds_then : (k mid new : Keeping d) → Adds d limit k mid → Adds d limit mid new → Adds d limit k new
   adds_then k mid new a b =
       record {
-        longer = let l = a.longer in let m = b.longer in omega arith;
-        room = λ h. at h (nat_eq (length mid.rows) (length k.rows)) refl;
-        rows = λ e. let l = a.longer in let m = b.longer in b.rows (omega arith) ∙ a.rows (omega arith);
-        dirty = λ e n m. let l = a.longer in let o = b.longer in b.dirty (omega arith) n m ∙ a.dirty (omega arith) n m;
+        more = let l = a.more in let m = b.more in omega arith;
+        room = λ h. at h (nat_eq (kept_live d mid.rows) (kept_live d k.rows)) refl;
+        rows = λ e. let l = a.more in let m = b.more in b.rows (omega arith) ∙ a.rows (omega arith);
+        dirty = λ e n m. let l = a.more in let o = b.more in b.dirty (omega arith) n m ∙ a.dirty (omega arith) n m;
       }
     where
-      last : kept_room d limit mid.rows ≤ kept_room d limit k.rows → length k.rows < length new.rows → (t : Bool)
-          → nat_eq (length new.rows) (length mid.rows) ≡ t
-          → (length k.rows < length mid.rows → kept_room d limit mid.rows < kept_room d limit k.rows) → kept_room d limit new.rows < kept_room d limit k.rows
+      last : kept_room d limit mid.rows ≤ kept_room d limit k.rows → kept_live d k.rows < kept_live d new.rows → (t : Bool)
+          → nat_eq (kept_live d new.rows) (kept_live d mid.rows) ≡ t
+          → (kept_live d k.rows < kept_live d mid.rows → kept_room d limit mid.rows < kept_room d limit k.rows)
+          → kept_room d limit new.rows < kept_room d limit k.rows
       last l h true e f =
-          let s : length new.rows ≡ length mid.rows = eqb-true (length new.rows) (length mid.rows) e in
+          let s : kept_live d new.rows ≡ kept_live d mid.rows = eqb-true (kept_live d new.rows) (kept_live d mid.rows) e in
           let t = ap (kept_room d limit) (b.rows s) in let u = f (omega arith) in omega arith
       last l h false e f =
-          let ne : length new.rows ≡ length mid.rows → ⊥ = λ s. let t : nat_eq (length new.rows) (length mid.rows) ≡ true = eq-eqb (length new.rows)
-          (length mid.rows) s in let u : true ≡ false = sym t ∙ e in cc in
-          let m = b.longer in
-          let u = b.room (strict (length mid.rows) (length new.rows) m (λ s. ne (sym s))) in omega arith
+          let ne : kept_live d new.rows ≡ kept_live d mid.rows → ⊥ = λ s. let t : nat_eq (kept_live d new.rows) (kept_live d mid.rows) ≡ true =
+          eq-eqb (kept_live d new.rows)
+          (kept_live d mid.rows) s in let u : true ≡ false = sym t ∙ e in cc in
+          let m = b.more in
+          let u = b.room (strict (kept_live d mid.rows) (kept_live d new.rows) m (λ s. ne (sym s))) in omega arith
         where
           strict : (x y : ℕ) → x ≤ y → (x ≡ y → ⊥) → x < y
           strict x y l n = omega (arith, n)
 
-      at : length k.rows < length new.rows → (t : Bool) → nat_eq (length mid.rows) (length k.rows) ≡ t → kept_room d limit new.rows < kept_room d limit k.rows
+      at : kept_live d k.rows < kept_live d new.rows → (t : Bool) → nat_eq (kept_live d mid.rows) (kept_live d k.rows) ≡ t
+          → kept_room d limit new.rows < kept_room d limit k.rows
       at h true e =
-          let s : length mid.rows ≡ length k.rows = eqb-true (length mid.rows) (length k.rows) e in
-          let t = ap (kept_room d limit) (a.rows s) in last (omega arith) h (nat_eq (length new.rows) (length mid.rows)) refl (λ l. a.room l)
+          let s : kept_live d mid.rows ≡ kept_live d k.rows = eqb-true (kept_live d mid.rows) (kept_live d k.rows) e in
+          let t = ap (kept_room d limit) (a.rows s) in last (omega arith) h (nat_eq (kept_live d new.rows) (kept_live d mid.rows)) refl (λ l. a.room l)
       at h false e =
-          let ne : length mid.rows ≡ length k.rows → ⊥ = λ s. let t : nat_eq (length mid.rows) (length k.rows) ≡ true = eq-eqb (length mid.rows)
-          (length k.rows) s in let u : true ≡ false = sym t ∙ e in cc in
-          let m = a.longer in
-          let u = a.room (strict (length k.rows) (length mid.rows) m (λ s. ne (sym s))) in last (omega arith) h
-          (nat_eq (length new.rows) (length mid.rows)) refl (λ l. a.room l)
+          let ne : kept_live d mid.rows ≡ kept_live d k.rows → ⊥ = λ s. let t : nat_eq (kept_live d mid.rows) (kept_live d k.rows) ≡ true =
+          eq-eqb (kept_live d mid.rows)
+          (kept_live d k.rows) s in let u : true ≡ false = sym t ∙ e in cc in
+          let m = a.more in
+          let u = a.room (strict (kept_live d k.rows) (kept_live d mid.rows) m (λ s. ne (sym s))) in last (omega arith) h
+          (nat_eq (kept_live d new.rows) (kept_live d mid.rows)) refl (λ l. a.room l)
         where
           strict : (x y : ℕ) → x ≤ y → (x ≡ y → ⊥) → x < y
           strict x y l n = omega (arith, n)
@@ -125,9 +129,10 @@ module _ (p : PlainDomain) (program : ProgramView) (limit : ℕ) (y : Name PredK
   pub places_adds : (new : Keeping d) (later : Option (List WorkEntry)) (row : Option ℕ) → Places p program limit y k told new later row → Adds d limit k new
   places_adds new later row (IsThere j named) = adds_none d limit k
   places_adds new later row (IsMade made absent room makes) =
-      let more : length made.rows ≡ length k.rows + 1 = ap length makes.rows ∙ length_push k.rows (record { name = y; answer = None; live = true }) in
+      let more : kept_live d made.rows ≡ kept_live d k.rows + 1 =
+      ap (kept_live d) makes.rows ∙ count_push (λ (z : KeptRow d). z.live) k.rows (record { name = y; answer = None; live = true }) in
       record {
-        longer = omega arith;
+        more = omega arith;
         room = λ h. makes_room d g limit k made y makes room;
         rows = λ e. absurd (omega arith);
         dirty = λ e n m. absurd (omega arith);
@@ -141,7 +146,7 @@ module _ (p : PlainDomain) (program : ProgramView) (limit : ℕ) (y : Name PredK
   places_extends new later row (IsLacking absent full) = extends_same d k.rows k.rows refl
 
   -- the name is one that a pair called
-  module _ (laws : domain.IsLawful p) (good : IsWellFormed program) (begun : Option (List WorkEntry)) (steps : ℕ) (unmet : ℕ → ℕ → Bool) (n i : ℕ)
+  module _ (laws : domain.IsLawful p) (good : IsWellFormed program) (begun : Origin) (steps : ℕ) (unmet : ℕ → ℕ → Bool) (n i : ℕ)
       (called : List (Name PredKey Abs)) where
     lawful : IsLawful d g
     lawful = lawful_at p laws program good
@@ -152,13 +157,13 @@ module _ (p : PlainDomain) (program : ProgramView) (limit : ℕ) (y : Name PredK
     module _ (rows : List ℕ) (left : List (Name PredKey Abs)) (full : Bool)
         (placing : IsPlacing p program limit begun told steps k unmet n i called (λ j. list_any (nat_eq j) rows) (left ++ y ∷ []) full) where
       made_waits : (new : Keeping d) → ((j : ℕ) → IsNamed d k.rows j y → ⊥) → kept_live d k.rows < limit → Makes d g k new y
-          → HasLog p program begun (noted (entries.Made (row_name y)) told) steps (λ log. IsWaiting d g (as_limits p) limit log new
+          → HasLog p program begun.told (noted (entries.Made (row_name y)) told) steps (λ log. IsWaiting d g (as_limits p) limit (start_of p begun) log new
           (Some (n, i)) unmet n i called)
       made_waits new absent room makes =
-          has_more p program begun told steps (λ log. IsWaiting d g (as_limits p) limit log k (Some (n, i)) unmet n i called)
-          (λ log. IsWaiting d g (as_limits p) limit log new (Some (n, i)) unmet n i called)
+          has_more p program begun.told told steps (λ log. IsWaiting d g (as_limits p) limit (start_of p begun) log k (Some (n, i)) unmet n i called)
+          (λ log. IsWaiting d g (as_limits p) limit (start_of p begun) log new (Some (n, i)) unmet n i called)
           placing.waiting (noted (entries.Made (row_name y)) told) steps (Made y) (entries.Made (row_name y)) refl refl (omega arith)
-          (makes_called d g lawful (as_limits p) limit placing.waiting.log k new unmet n i called placing.waiting.is y
+          (makes_called d g lawful (as_limits p) limit (start_of p begun) placing.waiting.log k new unmet n i called placing.waiting.is y
           (placing.links.inside y (in_last left y)) absent room makes)
 
       not_full : kept_live d k.rows < limit → full ≡ true → ⊥
@@ -202,17 +207,17 @@ module _ (p : PlainDomain) (program : ProgramView) (limit : ℕ) (y : Name PredK
           }
 
       -- what was told is legal
-      pub placing_legal : HasLog p program begun told 0 (IsLegalLog d g limit (no_work d))
+      pub placing_legal : HasLog p program begun.told told 0 (IsLegalLog d g limit (start_of p begun))
       placing_legal =
-          has_less p program begun told steps (λ log. IsWaiting d g (as_limits p) limit log k (Some (n, i)) unmet n i called)
-          (IsLegalLog d g limit (no_work d)) placing.waiting 0 (omega arith)
+          has_less p program begun.told told steps (λ log. IsWaiting d g (as_limits p) limit (start_of p begun) log k (Some (n, i)) unmet n i called)
+          (IsLegalLog d g limit (start_of p begun)) placing.waiting 0 (omega arith)
           (λ w. w.working.logged.legal)
 
       pub placed_legal : (new : Keeping d) (later : Option (List WorkEntry)) (row : Option ℕ) → Places p program limit y k told new later row
-          → HasLog p program begun later 0 (IsLegalLog d g limit (no_work d))
+          → HasLog p program begun.told later 0 (IsLegalLog d g limit (start_of p begun))
       placed_legal new later row (IsThere z named) = placing_legal
       placed_legal new later row (IsMade made absent room makes) =
-          has_less p program begun (noted (entries.Made (row_name y)) told) steps (λ log. IsWaiting d g (as_limits p) limit log made
-          (Some (n, i)) unmet n i called) (IsLegalLog d g limit (no_work d))
+          has_less p program begun.told (noted (entries.Made (row_name y)) told) steps (λ log. IsWaiting d g (as_limits p) limit (start_of p begun) log made
+          (Some (n, i)) unmet n i called) (IsLegalLog d g limit (start_of p begun))
           (made_waits made absent room makes) 0 (omega arith) (λ w. w.working.logged.legal)
       placed_legal new later row (IsLacking absent met) = placing_legal

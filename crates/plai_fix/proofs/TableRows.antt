@@ -1,12 +1,13 @@
 -- Rows of a table as rows that are kept.
 use Rattle.std.proofs.Common.{◌≡◌, ℕ, zero, suc, ◌<◌, ◌≤◌, Bool, true, false, List, [], ◌∷◌, ◌++◌, length, slice_get, Some, IsSome, refl, ap, arith}
-use Rattle.plai_theory.specs.Words.{item}
+use Rattle.plai_theory.specs.Words.{given, item}
 use Rattle.plai_terms.specs.declared.abs.Abs.{Abs}
 use Rattle.plai_domain.specs.declared.key.Key.{Key}
 use Rattle.plai_domain.specs.Plain.{PlainDomain}
-use Rattle.plai_table.specs.Rows.{TableRow, names_of, live_count}
+use Rattle.plai_table.specs.Rows.{TableRow, names_of, live_count, row_changed, with_live}
 use Rattle.plai_eval.specs.Meaning.{as_domain}
-use Rattle.plai_fix.specs.WorkStates.{KeptRow, IsNamed, kept_live}
+use Rattle.plai_fix.specs.WorkStates.{KeptRow, IsNamed, is_live, kept_live}
+use Rattle.plai_fix.specs.Changes.{kept_woken}
 use Rattle.plai_fix.specs.Tables.{key_name, kept_row, kept_rows}
 use Rattle.plai_fix.proofs.Lists.{length_map, count_map}
 
@@ -40,6 +41,23 @@ module _ (V : Type 0) (value_of : V → Abs) (p : PlainDomain) where
   kept_at [] n r e = cc
   kept_at (q ∷ rows) zero r e = let s : q ≡ r = cc in ap (λ (z : TableRow V). Some (kept_row value_of p z)) s
   kept_at (q ∷ rows) (suc n) r e = kept_at rows n r e
+
+  -- it is live where the row is
+  pub live_of : (rows : List (TableRow V)) (n : ℕ) (r : TableRow V) → slice_get rows n ≡ Some r
+      → is_live (as_domain p) (kept_rows value_of p rows) n ≡ r.live
+  live_of rows n r e = ap (given false (λ (z : KeptRow (as_domain p)). z.live)) (kept_at rows n r e)
+
+  pub none_of : (rows : List (TableRow V)) (n : ℕ) → length rows ≤ n → is_live (as_domain p) (kept_rows value_of p rows) n ≡ false
+  none_of [] n h = refl
+  none_of (r ∷ rows) zero h = absurd (omega arith)
+  none_of (r ∷ rows) (suc n) h = none_of rows n (omega arith)
+
+  -- where one is woken
+  pub woken_rows : (rows : List (TableRow V)) (n : ℕ) → kept_rows value_of p (row_changed (with_live true) rows n)
+      ≡ kept_woken (as_domain p) (kept_rows value_of p rows) n
+  woken_rows [] n = refl
+  woken_rows (r ∷ rows) zero = refl
+  woken_rows (r ∷ rows) (suc n) = ap (λ rest. kept_row value_of p r ∷ rest) (woken_rows rows n)
 
   -- a name behind the others
   pub last_name : (rows : List (TableRow V)) (r : TableRow V) → slice_get (names_of (rows ++ r ∷ [])) (length rows) ≡ Some r.name

@@ -1,27 +1,24 @@
--- What is kept of work that began with no rows: names and answers are values, and evaluations are those of the work.
+-- What is kept of work: names and answers are values, and evaluations are those of the work.
 use Rattle.std.proofs.Common.{◌≡◌, ℕ, List, Option, Some, None, sym, refl, ◌∙◌, subst}
 use Rattle.plai_theory.specs.Words.{HasSome, item, UpTo}
 use Rattle.plai_theory.specs.Domain.{Domain, Program, IsLawful}
 use Rattle.plai_theory.specs.Evaluation.{NameOf, answer_of, calls_of}
-use Rattle.plai_theory.specs.Stages.{stage}
-use Rattle.plai_theory.specs.LegalWork.{WorkRow, LogEntry, present_source, no_work, after_all}
+use Rattle.plai_theory.specs.LegalWork.{WorkRow, Work, LogEntry, present_source, after_all}
 use Rattle.plai_theory.specs.Limits.{Limits}
 use Rattle.plai_theory.proofs.Eval.{same_answer, same_called}
-use Rattle.plai_theory.proofs.Stages.{left_at}
-use Rattle.plai_theory.proofs.Logs.{log_keeps, empty}
-use Rattle.plai_theory.proofs.Invariant.{Inv}
 use Rattle.plai_fix.specs.WorkStates.{KeptRow, Keeping, IsNamed, KeepsRow, AtBoth, kept_source}
-use Rattle.plai_fix.specs.Logs.{IsLogged}
+use Rattle.plai_fix.specs.Logs.{AreValues, IsLogged}
 use Rattle.plai_fix.proofs.Places.{found_at, one_place, same_source}
+use Rattle.plai_fix.proofs.ValueLogs.{rows_valued, log_values}
 
-module _ (d : Domain) (g : Program d) (laws : IsLawful d g) (limits : Limits d) (limit : ℕ) (log : List (LogEntry d)) (k : Keeping d)
+module _ (d : Domain) (g : Program d) (laws : IsLawful d g) (limits : Limits d) (limit : ℕ) (start : Work d) (log : List (LogEntry d)) (k : Keeping d)
     (open_pair : Option (ℕ × ℕ))
-    (logged : IsLogged d g limits limit (no_work d) log k open_pair) where
+    (logged : IsLogged d g limits limit start log k open_pair) where
   abbrev rows : List (WorkRow d)
-  rows = (after_all d g (no_work d) log).rows
+  rows = (after_all d g start log).rows
 
-  pub inv : Inv d g rows (after_all d g (no_work d) log).last
-  inv = log_keeps d g laws limit (no_work d) log (empty d g laws) logged.legal
+  pub values : AreValues d rows
+  values = log_values d g laws limit start log logged.values logged.legal
 
   pub kept_answers : (p : d.Pred) (v : d.Value) → kept_source d k.rows p v ≡ present_source d rows p v
   kept_answers = same_source d g laws k.rows rows (KeepsRow d g k open_pair) logged.keeps.each (λ a kept r h. (h.name, h.answer))
@@ -35,8 +32,7 @@ module _ (d : Domain) (g : Program d) (laws : IsLawful d g) (limits : Limits d) 
   pub answer_is_value : (p : d.Pred) (v a : d.Value) → d.leq p v v → kept_source d k.rows p v ≡ Some a → d.leq p a a
   answer_is_value p v a is e =
       let s : present_source d rows p v ≡ Some a = sym (kept_answers p v) ∙ e in
-      let h : UpTo (d.leq p) (present_source d rows p v) (present_source d rows p v) =
-      left_at d g laws p (present_source d rows p v) (stage d g inv.low.0 p v) (inv.low.1 p v is) in
+      let h : UpTo (d.leq p) (present_source d rows p v) (present_source d rows p v) = rows_valued d g laws rows values p v is in
       let u : UpTo (d.leq p) (Some a) (Some a) = subst (λ (o : Option d.Value). UpTo (d.leq p) o o) s h in u
 
   -- the row under work of a named row
@@ -52,7 +48,7 @@ module _ (d : Domain) (g : Program d) (laws : IsLawful d g) (limits : Limits d) 
   pub name_is_value : (n : ℕ) (x : NameOf d) → IsNamed d k.rows n x → d.leq x.pred x.call x.call
   name_is_value n x named =
       let (r, f, same) = named_row n x named in
-      subst (λ (y : NameOf d). d.leq y.pred y.call y.call) same (inv.value_names r.name r (found_at d g laws rows logged.keeps.own n r f))
+      subst (λ (y : NameOf d). d.leq y.pred y.call y.call) same (values.names r.name r (found_at d g laws rows logged.keeps.own n r f))
 
   -- each name has at most one row
   pub one_row : (i j : ℕ) (y : NameOf d) → IsNamed d k.rows i y → IsNamed d k.rows j y → i ≡ j

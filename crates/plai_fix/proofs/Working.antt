@@ -1,23 +1,55 @@
 -- Steps of legal work at a table and its arcs, each noted at the end of a log.
-use Rattle.std.proofs.Common.{◌≡◌, ◌≢◌, ℕ, suc, ◌+◌, ◌<◌, ◌≤◌, Bool, true, false, cond, ◌↔◌, nat_eq, eqb-true, List, [], ◌∷◌, ◌++◌, map, Option, Some, None}
+use Rattle.std.proofs.Common.{◌≡◌, ℕ, suc, ◌+◌, ◌≤◌, Bool, true, false, cond, nat_eq, eqb-true, List, [], ◌∷◌, ◌++◌, map, Option, Some, None}
 use Rattle.std.proofs.Common.{IsSome, sym, refl, ap, ap₂, ◌∙◌, subst, arith}
 use Rattle.plai_theory.specs.Words.{IsIn, given, item}
 use Rattle.plai_theory.specs.Domain.{Domain, Program, IsLawful}
 use Rattle.plai_theory.specs.Evaluation.{NameOf}
-use Rattle.plai_theory.specs.LegalWork.{WorkRow, Work, LogEntry, Made, Evaluated, Grew, find, present_source, mentions, new_row, after_evaluating}
-use Rattle.plai_theory.specs.LegalWork.{after_growing, calls_now, next_answer, after, IsDemanded, live_count, IsLegal, after_all}
-use Rattle.plai_theory.specs.Limits.{Limits, IsOverAt}
+use Rattle.plai_theory.specs.LegalWork.{WorkRow, Work, LogEntry, Evaluated, find, present_source, new_row, after_evaluating}
+use Rattle.plai_theory.specs.LegalWork.{calls_now, next_answer, after, live_count, IsLegal, after_all}
+use Rattle.plai_theory.specs.Limits.{Limits, IsOverAt, Fits, AllFit}
 use Rattle.plai_theory.proofs.Options.{by_test}
-use Rattle.plai_theory.proofs.Rows.{find_map, find_push}
+use Rattle.plai_theory.proofs.Rows.{find_map}
 use Rattle.plai_theory.proofs.Walk.{after_push, legal_push}
-use Rattle.plai_fix.specs.WorkStates.{clause_at, Keeping, Keeps, IsMet, IsFull, IsNamed}
-use Rattle.plai_fix.specs.Changes.{Clears, SetsCalls, Answers, Makes}
-use Rattle.plai_fix.specs.Logs.{IsLogged, IsWorking, IsEvaluated}
-use Rattle.plai_fix.proofs.Places.{item_map, push_cases, found_at, one_place}
+use Rattle.plai_fix.specs.WorkStates.{clause_at, Keeping, Keeps, IsMet, IsFull}
+use Rattle.plai_fix.specs.Changes.{Clears}
+use Rattle.plai_fix.specs.Logs.{IsWorking, IsEvaluated}
+use Rattle.plai_fix.proofs.Places.{item_map, found_at, one_place}
 use Rattle.std.proofs.lemmas.Bool.{eqb-false}
-use Rattle.plai_fix.proofs.Steps.{row_at, cleared, opened, closed}
-use Rattle.plai_fix.proofs.Growths.{grown, made}
-use Rattle.plai_fix.proofs.LiveRows.{live_map, live_push, fits_push, at_map}
+use Rattle.plai_fix.proofs.Steps.{row_at, cleared}
+
+-- live rows, of which a change of rows makes as many
+pub live_map : (d : Domain) (f : WorkRow d → WorkRow d) → ((r : WorkRow d) → (f r).live ≡ r.live) → (rows : List (WorkRow d))
+    → live_count d (map f rows) ≡ live_count d rows
+live_map d f keeps [] = refl
+live_map d f keeps (r ∷ rows) = ap₂ (λ (b : Bool) (n : ℕ). cond b 1 0 + n) (keeps r) (live_map d f keeps rows)
+
+pub live_push : (d : Domain) (rows : List (WorkRow d)) (x : NameOf d) → live_count d (rows ++ new_row d x ∷ []) ≡ live_count d rows + 1
+live_push d [] x = refl
+live_push d (r ∷ rows) x = let k : live_count d (rows ++ new_row d x ∷ []) ≡ live_count d rows + 1 = live_push d rows x in omega arith
+
+pub fits_push : (d : Domain) (g : Program d) (limits : Limits d) (w : Work d) (es : List (LogEntry d)) (e : LogEntry d) → AllFit d g limits w es
+    → Fits d g limits (after_all d g w es) e → AllFit d g limits w (es ++ e ∷ [])
+fits_push d g limits w [] e fits h = (h, tt)
+fits_push d g limits w (b ∷ es) e fits h = (fits.0, fits_push d g limits (after d g w b) es e fits.1 h)
+
+-- a row of a changed list
+pub at_map : {A : Type 0} {P : Type 0} (f : A → A) (xs : List A) (n : ℕ) (x : A) → item (map f xs) n ≡ Some x → ((y : A) → item xs n ≡ Some y → f y ≡ x → P) → P
+at_map {A} {P} f xs n x e h = at_item (item xs n) refl (sym (item_map f xs n) ∙ e)
+  where
+    at_item : (o : Option A) → item xs n ≡ o → given None (λ y. Some (f y)) o ≡ Some x → P
+    at_item None k u = cc
+    at_item (Some y) k u = h y k cc
+
+pub some_pair : {n i a j : ℕ} → ◌≡◌ {A = Option (ℕ × ℕ)} (Some (n, i)) (Some (a, j)) → (n ≡ a) × (i ≡ j)
+some_pair {n = n} {i = i} e = (ap (fst n) e, ap (snd i) e)
+  where
+    fst : ℕ → Option (ℕ × ℕ) → ℕ
+    fst z None = z
+    fst z (Some p) = p.0
+
+    snd : ℕ → Option (ℕ × ℕ) → ℕ
+    snd z None = z
+    snd z (Some p) = p.1
 
 module _ (d : Domain) (g : Program d) (laws : IsLawful d g) where
   -- a change of rows keeps what is met, where pairs that are not dirty were not dirty and call the same
@@ -25,7 +57,7 @@ module _ (d : Domain) (g : Program d) (laws : IsLawful d g) where
     pub found_map : (rows : List (WorkRow d)) (y : NameOf d) (q : WorkRow d) → find d rows y ≡ Some q → find d (map f rows) y ≡ Some (f q)
     found_map rows y q e = find_map d g laws f keeps rows y ∙ ap (given None (λ r. Some (f r))) e
 
-    found_back : (rows : List (WorkRow d)) (y : NameOf d) (q : WorkRow d) → find d (map f rows) y ≡ Some q
+    pub found_back : (rows : List (WorkRow d)) (y : NameOf d) (q : WorkRow d) → find d (map f rows) y ≡ Some q
         → (z : WorkRow d) × (find d rows y ≡ Some z) × (f z ≡ q)
     found_back rows y q e = at_found (find d rows y) refl (sym (find_map d g laws f keeps rows y) ∙ e)
       where
@@ -61,8 +93,12 @@ module _ (d : Domain) (g : Program d) (laws : IsLawful d g) where
           full = λ n m e. let k : limit ≤ live_count d rows = full.full n m (fewer n m e) in let s : live_count d (map f rows) ≡ live_count d rows =
               live_map d f lives rows in omega arith;
           pairs = λ n m e.
-              let (q, t, u) = full.pairs n m (fewer n m e) in
-              (f q, item_map f rows n ∙ ap (given None (λ z. Some (f z))) t, subst (λ (x : NameOf d). IsSome (clause_at d g x.pred m)) (sym (keeps q)) u);
+              let (q, t, l, u) = full.pairs n m (fewer n m e) in (
+                f q,
+                item_map f rows n ∙ ap (given None (λ z. Some (f z))) t,
+                lives q ∙ l,
+                subst (λ (x : NameOf d). IsSome (clause_at d g x.pred m)) (sym (keeps q)) u,
+              );
           missing = λ n r e i clean marked.
               at_map f rows n r e (λ q k same.
               let (was, calls) = h n q k i (subst (λ (z : WorkRow d). z.dirty i ≡ false) (sym same) clean) marked in
@@ -79,7 +115,7 @@ module _ (d : Domain) (g : Program d) (laws : IsLawful d g) (limits : Limits d) 
 
   -- Theorem: a dirty pair of a row is evaluated.
   module _ (k new : Keeping d) (unmet left : ℕ → ℕ → Bool) (working : IsWorking d g limits limit start log k None None unmet) (n i : ℕ) (r : WorkRow d)
-      (at : item rows n ≡ Some r)
+      (at : item rows n ≡ Some r) (live : r.live ≡ true)
       (c : d.Clause) (is_clause : item (g.clauses r.name.pred) i ≡ Some c) (is_dirty : k.dirty n (suc i) ≡ true)
       (within : IsOverAt d limits (present_source d rows) c r.name.call → ⊥) (clears : Clears d k new n i)
       (others : (a m : ℕ) → (a ≡ n → m ≡ suc i → ⊥) → left a m ≡ unmet a m) (own : left n (suc i) ≡ false) where
@@ -119,8 +155,7 @@ module _ (d : Domain) (g : Program d) (laws : IsLawful d g) (limits : Limits d) 
                 few = subst (λ (w : Work d). live_count d w.rows ≤ limit) (sym same)
                     (let l : live_count d (map evaluate rows) ≡ live_count d rows = live_map d evaluate (λ z. refl) rows in let f = working.logged.few in
                     omega arith);
-                live = λ a q e. at_map evaluate rows a q (sym (ap (λ (w : Work d). item w.rows a) same) ∙ e)
-                    (λ z f s. sym (ap (λ (b : WorkRow d). b.live) s) ∙ working.logged.live a z f);
+                values = working.logged.values;
               };
           last = ap (λ (w : Work d). w.last) same;
           met = subst (λ (w : Work d). IsMet d g (Some (n, i)) left w.rows) (sym same)
@@ -140,7 +175,7 @@ module _ (d : Domain) (g : Program d) (laws : IsLawful d g) (limits : Limits d) 
         legal =
             let (kept, e, h) = row_at d g laws k None rows working.logged.keeps n r at in (
               working.none_due,
-              (r, found_at d g laws rows working.logged.keeps.own n r at, working.logged.live n r at, sym (h.dirty i c is_clause) ∙ is_dirty),
+              (r, found_at d g laws rows working.logged.keeps.own n r at, live, sym (h.dirty i c is_clause) ∙ is_dirty),
               (c, is_clause),
             )
 
@@ -179,113 +214,3 @@ module _ (d : Domain) (g : Program d) (laws : IsLawful d g) (limits : Limits d) 
           number : Option (NameOf d × ℕ) → ℕ
           number None = i
           number (Some q) = q.1
-
-  -- Theorem: the growth that is due is done.
-  module _ (k new : Keeping d) (n i : ℕ) (r : WorkRow d) (unmet : ℕ → ℕ → Bool) (done : IsEvaluated d g limits limit start log k None n i r.name unmet)
-      (at : item rows n ≡ Some r)
-      (a : Option d.Value) (is : a ≡ next_answer d g rows r.name i) (other : a ≢ present_source d rows r.name.pred r.name.call)
-      (answers : Answers d k new n a) where
-    abbrev growth : WorkRow d → WorkRow d
-    growth = after_growing d r.name a
-
-    abbrev growing : LogEntry d
-    growing = Grew r.name a
-
-    same_grown : after_all d g start (log ++ growing ∷ []) ≡ after d g (after_all d g start log) growing
-    same_grown = after_push d g limit start log growing
-
-    still_clean : (q : WorkRow d) (j : ℕ) → (growth q).dirty j ≡ false → q.dirty j ≡ false
-    still_clean q j e = by_test (mentions d r.name (q.calls j)) (λ t. let l : true ≡ false = rw t at e in cc) (λ t. rw t at e)
-
-    pub grew : IsWorking d g limits limit start (log ++ growing ∷ []) new None (Some (n, i)) unmet
-    grew =
-        record {
-          logged =
-              record {
-                legal = legal_push d g limit start log growing done.logged.legal (i, done.last, is, other);
-                fits = fits_push d g limits start log growing done.logged.fits tt;
-                keeps = subst (λ (w : Work d). Keeps d g new None w.rows) (sym same_grown) (grown d g laws k new rows done.logged.keeps n r at a answers);
-                few = subst (λ (w : Work d). live_count d w.rows ≤ limit) (sym same_grown)
-                    (let l : live_count d (map growth rows) ≡ live_count d rows = live_map d growth (λ z. refl) rows in let f = done.logged.few in omega arith);
-                live = λ b q e. at_map growth rows b q (sym (ap (λ (w : Work d). item w.rows b) same_grown) ∙ e)
-                    (λ z f s. sym (ap (λ (y : WorkRow d). y.live) s) ∙ done.logged.live b z f);
-              };
-          none_due = λ y j e. let l : None ≡ Some (y, j) = sym (ap (λ (w : Work d). w.last) same_grown) ∙ e in cc;
-          met = subst (λ (w : Work d). IsMet d g (Some (n, i)) unmet w.rows) (sym same_grown)
-              (met_map d g laws growth (λ z. refl) (λ z. refl) rows (Some (n, i)) (Some (n, i)) unmet unmet done.met
-              (λ b q f j clean shut free. (still_clean q j clean, refl, shut, free)));
-          full = subst (λ (w : Work d). IsFull d g limit unmet w.rows) (sym same_grown)
-              (full_map d g laws growth (λ z. refl) (λ z. refl) rows limit unmet unmet done.full (λ b m e. e)
-              (λ b q f j clean marked. (still_clean q j clean, refl)));
-        }
-
-  -- Theorem: a row is made for a name that is demanded and has none.
-  module _ (k new : Keeping d) (open_pair waiting : Option (ℕ × ℕ)) (unmet : ℕ → ℕ → Bool)
-      (working : IsWorking d g limits limit start log k open_pair waiting unmet)
-      (waits : (p : ℕ × ℕ) → waiting ≡ Some p → open_pair ≡ Some p) (x : NameOf d) (demanded : IsDemanded d g rows x) (absent : find d rows x ≡ None)
-      (room : live_count d rows < limit) (makes : Makes d g k new x) where
-    abbrev making : LogEntry d
-    making = Made x
-
-    same_made : after_all d g start (log ++ making ∷ []) ≡ after d g (after_all d g start log) making
-    same_made = after_push d g limit start log making
-
-    unmarked : (a m : ℕ) → unmet a m ≡ false
-    unmarked a m = by_test (unmet a m) (λ t. let f = working.full.full a m t in absurd (omega arith)) (λ t. t)
-
-    uncalled : (a : ℕ) (q : WorkRow d) → item rows a ≡ Some q → (j : ℕ) (c : d.Clause) → item (g.clauses q.name.pred) j ≡ Some c → q.dirty j ≡ false
-        → (open_pair ≡ Some (a, j) → ⊥) → IsIn x (q.calls j) → ⊥
-    uncalled a q f j c s clean shut inside =
-        let (z, there, live) = working.met.met a q f j c s clean (λ e. shut (waits (a, j) e)) (unmarked a (suc j)) x inside in
-        let l : None ≡ Some z = sym absent ∙ there in cc
-
-    still_found : (y : NameOf d) (q : WorkRow d) → find d rows y ≡ Some q → find d (rows ++ new_row d x ∷ []) y ≡ Some q
-    still_found y q e = find_push d g laws rows (new_row d x) y ∙ ap (given (cond (d.same_name x y) (Some (new_row d x)) None) Some) e
-
-    pub makes_row : IsWorking d g limits limit start (log ++ making ∷ []) new open_pair waiting unmet
-    makes_row =
-        record {
-          logged =
-              record {
-                legal = legal_push d g limit start log making working.logged.legal (working.none_due, demanded, absent, room);
-                fits = fits_push d g limits start log making working.logged.fits tt;
-                keeps = subst (λ (w : Work d). Keeps d g new open_pair w.rows) (sym same_made)
-                    (made d g laws k new rows open_pair working.logged.keeps x absent uncalled makes);
-                few = subst (λ (w : Work d). live_count d w.rows ≤ limit) (sym same_made)
-                    (let l : live_count d (rows ++ new_row d x ∷ []) ≡ live_count d rows + 1 = live_push d rows x in omega arith);
-                live = λ a q e. push_cases rows (new_row d x) q a (sym (ap (λ (w : Work d). item w.rows a) same_made) ∙ e) (working.logged.live a q)
-                    (λ f s. sym (ap (λ (y : WorkRow d). y.live) s));
-              };
-          none_due = λ y j e. let l : None ≡ Some (y, j) = sym (ap (λ (w : Work d). w.last) same_made) ∙ e in cc;
-          met = subst (λ (w : Work d). IsMet d g waiting unmet w.rows) (sym same_made)
-              record {
-                met = λ a q e j c s clean shut free y inside.
-                    push_cases rows (new_row d x) q a e
-                    (λ f. let (z, there, live) = working.met.met a q f j c s clean shut free y inside in (z, still_found y z there, live))
-                    (λ f same. let l : true ≡ false = ap (λ (w : WorkRow d). w.dirty j) same ∙ clean in cc);
-              };
-          full = subst (λ (w : Work d). IsFull d g limit unmet w.rows) (sym same_made)
-              record {
-                full = λ a m e. let l : true ≡ false = sym e ∙ unmarked a m in cc;
-                pairs = λ a m e. let l : true ≡ false = sym e ∙ unmarked a m in cc;
-                missing = λ a q e j clean marked. let l : true ≡ false = sym marked ∙ unmarked a (suc j) in cc;
-              };
-        }
-
-  -- Theorem: the calls of the open pair are set.
-  pub sets : (k new : Keeping d) (n i : ℕ) → IsLogged d g limits limit start log k (Some (n, i)) → (r : WorkRow d) → item rows n ≡ Some r → (c : d.Clause)
-      → item (g.clauses r.name.pred) i ≡ Some c
-      → (called : ℕ → Bool) → SetsCalls d k new n i called → ((j : ℕ) → called j ≡ true → IsSome (item k.rows j))
-      → ((j : ℕ) (y : NameOf d) → IsNamed d k.rows j y → (called j ≡ true) ↔ IsIn y (r.calls i)) → IsLogged d g limits limit start log new None
-  sets k new n i logged r at c s called set inside right =
-      record {
-        legal = logged.legal;
-        fits = logged.fits;
-        keeps = closed d g laws k new rows n i logged.keeps r at c s called set inside right;
-        few = logged.few;
-        live = logged.live;
-      }
-
-  pub opens : (k : Keeping d) (open_pair : Option (ℕ × ℕ)) → IsLogged d g limits limit start log k None → IsLogged d g limits limit start log k open_pair
-  opens k open_pair logged =
-      record { legal = logged.legal; fits = logged.fits; keeps = opened d g laws k rows logged.keeps open_pair; few = logged.few; live = logged.live }

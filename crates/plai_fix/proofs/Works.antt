@@ -1,5 +1,5 @@
 -- A pair's work, from its evaluation on, as it is told.
-use Rattle.std.proofs.Common.{◌≡◌, ◌⊎◌, ℕ, Bool, true, false, nat_eq, List, Option, Some, None, inl, inr, arith}
+use Rattle.std.proofs.Common.{◌≡◌, ◌⊎◌, ℕ, Bool, true, false, nat_eq, List, Option, Some, None, subst, inl, inr, arith}
 use Rattle.std.specs.List.{list_any}
 use Rattle.plai_theory.specs.Words.{IsIn}
 use Rattle.plai_theory.specs.Domain.{Domain, Program, Name, IsLawful}
@@ -13,11 +13,12 @@ use Rattle.plai_clauses.specs.Program.{ProgramView}
 use Rattle.plai_clauses.specs.WellFormed.{IsWellFormed}
 use Rattle.plai_eval.specs.Meaning.{as_domain, as_limits, as_program}
 use Rattle.plai_eval.proofs.Lawful.{lawful_at}
-use Rattle.plai_fix.specs.WorkStates.{KeptRow, Keeping, Keeps, IsNamed}
+use Rattle.plai_fix.specs.WorkStates.{KeptRow, Keeping, Keeps, IsNamed, is_live}
 use Rattle.plai_fix.specs.Changes.{SetsCalls}
 use Rattle.plai_fix.specs.LookUps.{Looks}
 use Rattle.plai_fix.specs.Pairs.{Links, HasEvaluated}
 use Rattle.plai_fix.specs.Queues.{IsQueued}
+use Rattle.plai_fix.specs.Told.{start_of, Origin}
 use Rattle.plai_fix.specs.Solving.{IsPastEvaluation, IsPastGrowth, AreOfRows}
 use Rattle.plai_fix.proofs.Lists.{item_within}
 use Rattle.plai_fix.proofs.LookedUp.{looks_sound, looks_whole, looks_missing}
@@ -47,7 +48,7 @@ pub keeps_of_rows : (d : Domain) (g : Program d) (k : Keeping d) (open_pair : Op
 keeps_of_rows d g k open_pair rows keeps = λ n m e. item_within k.rows n (keeps.dirty_rows n m e)
 
 module _ (p : PlainDomain) (laws : domain.IsLawful p) (program : ProgramView) (good : IsWellFormed program) (limit : ℕ)
-    (begun told : Option (List WorkEntry)) (steps : ℕ)
+    (begun : Origin) (told : Option (List WorkEntry)) (steps : ℕ)
     (k : Keeping (as_domain p)) (unmet : ℕ → ℕ → Bool) (n i : ℕ) (called : List (Name PredKey Abs)) where
   abbrev d : Domain
   d = as_domain p
@@ -64,11 +65,11 @@ module _ (p : PlainDomain) (laws : domain.IsLawful p) (program : ProgramView) (g
       → Looks d k.rows called rows missing → SetsCalls d k new n i (λ j. list_any (nat_eq j) rows)
       → IsPastEvaluation p program limit begun told steps new unmet None n i called answer
   links_told answer past new rows missing looks set =
-      has_less p program begun told steps (λ log. HasEvaluated d g (as_limits p) limit log k (Some (n, i)) unmet n i called answer)
-      (λ log. HasEvaluated d g (as_limits p) limit log new None unmet n i called answer)
+      has_less p program begun.told told steps (λ log. HasEvaluated d g (as_limits p) limit (start_of p begun) log k (Some (n, i)) unmet n i called answer)
+      (λ log. HasEvaluated d g (as_limits p) limit (start_of p begun) log new None unmet n i called answer)
       past steps (omega arith)
       (λ has.
-      links d g lawful (as_limits p) limit past.log k new unmet n i called missing answer (λ j. list_any (nat_eq j) rows) has set
+      links d g lawful (as_limits p) limit (start_of p begun) past.log k new unmet n i called missing answer (λ j. list_any (nat_eq j) rows) has set
       (looks_links d k.rows called rows missing looks)
       (λ y inside. (looks_missing d k.rows called rows missing looks y inside).1))
 
@@ -76,5 +77,6 @@ module _ (p : PlainDomain) (laws : domain.IsLawful p) (program : ProgramView) (g
   grown_of_rows open_pair past = keeps_of_rows d g k open_pair _ past.is.working.logged.keeps
 
 -- fewer dirty pairs are queued as well
-pub queued_less : (dirty new : ℕ → ℕ → Bool) (queue : List ℕ) → ((n m : ℕ) → new n m ≡ true → dirty n m ≡ true) → IsQueued dirty queue → IsQueued new queue
-queued_less dirty new queue less queued n m e = queued n m (less n m e)
+pub queued_less : (d : Domain) (k new : Keeping d) (queue : List ℕ) → new.rows ≡ k.rows → ((n m : ℕ) → new.dirty n m ≡ true → k.dirty n m ≡ true)
+    → IsQueued k queue → IsQueued new queue
+queued_less d k new queue same less queued n m live e = queued n m (subst (λ ks. is_live d ks n ≡ true) same live) (less n m e)

@@ -1,5 +1,5 @@
 -- What a step of work changes of a table and its arcs. Clauses are counted from 0 in the words of steps, from 1 in the arcs.
-use Rattle.std.specs.Prelude.{◌≡◌, ◌↔◌, ℕ, suc, Bool, true, cond, not, ◌&&◌, ◌||◌, nat_eq, [], ◌∷◌, ◌++◌, length, Option, Some, None, IsSome}
+use Rattle.std.specs.Prelude.{◌≡◌, ◌↔◌, ℕ, zero, suc, Bool, true, cond, not, ◌&&◌, ◌||◌, nat_eq, List, [], ◌∷◌, ◌++◌, length, Option, Some, None, IsSome}
 use Rattle.plai_theory.specs.Words.{given, item}
 use Rattle.plai_theory.specs.Domain.{Domain, Program}
 use Rattle.plai_theory.specs.Evaluation.{NameOf}
@@ -29,4 +29,16 @@ pub record Makes (d : Domain) (g : Program d) (k new : Keeping d) (x : NameOf d)
   pub rows : new.rows ≡ k.rows ++ record { name = x; answer = None; live = true } ∷ []
   pub own : (m : ℕ) → (new.dirty (length k.rows) m ≡ true) ↔ IsSome (clause_at d g x.pred m)
   pub others : (a m : ℕ) → (a ≡ length k.rows → ⊥) → new.dirty a m ≡ k.dirty a m
+  pub calls : (a m j : ℕ) → new.calls a m j ≡ k.calls a m j
+
+-- the rows, with that of this number live
+abbrev pub kept_woken : (d : Domain) → List (KeptRow d) → ℕ → List (KeptRow d)
+kept_woken d [] n = []
+kept_woken d (r ∷ kept) zero = record { name = r.name; answer = r.answer; live = true } ∷ kept
+kept_woken d (r ∷ kept) (suc n) = r ∷ kept_woken d kept n
+
+-- Row n is live.
+pub record Wakes (d : Domain) (k new : Keeping d) (n : ℕ) : Type 0 where
+  pub rows : new.rows ≡ kept_woken d k.rows n
+  pub dirty : (a m : ℕ) → new.dirty a m ≡ k.dirty a m
   pub calls : (a m j : ℕ) → new.calls a m j ≡ k.calls a m j

@@ -1,9 +1,9 @@
 -- How parts of the work lower the three numbers that show that it ends.
-use Rattle.std.specs.Prelude.{◌≡◌, ℕ, ◌<◌, ◌≤◌, length, Bool, true, false}
+use Rattle.std.specs.Prelude.{◌≡◌, ℕ, ◌<◌, ◌≤◌, Bool, true, false}
 use Rattle.plai_theory.specs.Domain.{Domain, Program}
 use Rattle.plai_fix.specs.declared.change.Change.{Change}
 use Rattle.plai_fix.specs.declared.change.Change.TheVariants.{Nothing, Grown, Opened}
-use Rattle.plai_fix.specs.WorkStates.{Keeping}
+use Rattle.plai_fix.specs.WorkStates.{Keeping, IsClean, kept_live}
 use Rattle.plai_fix.specs.Measures.{kept_room, kept_ranks, kept_dirties}
 
 -- the greater of the two changes
@@ -39,21 +39,21 @@ Moves d g limit rank k new Nothing =
 Moves d g limit rank k new Grown = (kept_room d limit new.rows ≡ kept_room d limit k.rows) × (kept_ranks d rank new.rows < kept_ranks d rank k.rows)
 Moves d g limit rank k new Opened = kept_room d limit new.rows < kept_room d limit k.rows
 
--- where pairs were evaluated as long as nothing grew: no pair is dirty, the ranks fell, or the room did
+-- where pairs were evaluated as long as nothing grew: no pair of a live row is dirty, the ranks fell, or the room did
 abbrev pub Rests : (d : Domain) → ℕ → (d.Pred → d.Value → ℕ) → Keeping d → Keeping d → Change → Type 0
-Rests d limit rank k new Nothing = (n m : ℕ) → new.dirty n m ≡ false
+Rests d limit rank k new Nothing = IsClean d new
 Rests d limit rank k new Grown = (kept_room d limit new.rows ≡ kept_room d limit k.rows) × (kept_ranks d rank new.rows < kept_ranks d rank k.rows)
 Rests d limit rank k new Opened = kept_room d limit new.rows < kept_room d limit k.rows
 
 -- where no answer that is there grows either
 abbrev pub Settles : (d : Domain) → ℕ → Keeping d → Keeping d → Change → Type 0
-Settles d limit k new Nothing = (n m : ℕ) → new.dirty n m ≡ false
+Settles d limit k new Nothing = IsClean d new
 Settles d limit k new Grown = ⊥
 Settles d limit k new Opened = kept_room d limit new.rows < kept_room d limit k.rows
 
--- Rows come, and the room falls with them; where none comes, all is as before.
+-- Live rows come, and the room falls with them; where none comes, all is as before.
 pub record Adds (d : Domain) (limit : ℕ) (k new : Keeping d) : Type 0 where
-  pub longer : length k.rows ≤ length new.rows
-  pub room : length k.rows < length new.rows → kept_room d limit new.rows < kept_room d limit k.rows
-  pub rows : length new.rows ≡ length k.rows → new.rows ≡ k.rows
-  pub dirty : length new.rows ≡ length k.rows → (n m : ℕ) → new.dirty n m ≡ k.dirty n m
+  pub more : kept_live d k.rows ≤ kept_live d new.rows
+  pub room : kept_live d k.rows < kept_live d new.rows → kept_room d limit new.rows < kept_room d limit k.rows
+  pub rows : kept_live d new.rows ≡ kept_live d k.rows → new.rows ≡ k.rows
+  pub dirty : kept_live d new.rows ≡ kept_live d k.rows → (n m : ℕ) → new.dirty n m ≡ k.dirty n m

@@ -4,15 +4,16 @@ use Rattle.std.specs.Prelude.{◌≡◌, ◌⊎◌, ℕ, Bool, true, List, Optio
 use Rattle.plai_theory.specs.Words.{IsIn, UpTo, item}
 use Rattle.plai_theory.specs.Domain.{Domain, Program}
 use Rattle.plai_theory.specs.Evaluation.{NameOf, join_of}
-use Rattle.plai_theory.specs.LegalWork.{WorkRow, LogEntry, present_source, next_answer, no_work, after_all}
+use Rattle.plai_theory.specs.LegalWork.{WorkRow, LogEntry, present_source, next_answer, after_all, Work}
 use Rattle.plai_theory.specs.Limits.{Limits}
 use Rattle.plai_fix.specs.WorkStates.{KeptRow, Keeping, IsNamed}
 use Rattle.plai_fix.specs.Logs.{IsWorking, IsEvaluated}
 
--- The row of this number has a clause of that number, whose last evaluation called these names.
+-- The live row of this number has a clause of that number, whose last evaluation called these names.
 pub record HasCalled (d : Domain) (g : Program d) (rows : List (WorkRow d)) (n i : ℕ) (called : List (NameOf d)) : Type 0 where
   pub row : WorkRow d
   pub at : item rows n ≡ Some row
+  pub live : row.live ≡ true
   pub clause : d.Clause
   pub is_clause : item (g.clauses row.name.pred) i ≡ Some clause
   pub calls : row.calls i ≡ called
@@ -26,20 +27,20 @@ pub record Links (d : Domain) (kept : List (KeptRow d)) (called : List (NameOf d
   pub inside : (y : NameOf d) → IsIn y left → IsIn y called
   pub missing : full ≡ true → (y : NameOf d) × IsIn y called × ((j : ℕ) → IsNamed d kept j y → ⊥)
 
--- Work from no rows stands behind the evaluation of the pair, which called these names and gave this answer or none: a
+-- Work stands behind the evaluation of the pair, which called these names and gave this answer or none: a
 -- growth of the row by it may be due.
-pub record HasEvaluated (d : Domain) (g : Program d) (limits : Limits d) (limit : ℕ) (log : List (LogEntry d)) (k : Keeping d) (open_pair : Option
+pub record HasEvaluated (d : Domain) (g : Program d) (limits : Limits d) (limit : ℕ) (start : Work d) (log : List (LogEntry d)) (k : Keeping d) (open_pair : Option
     (ℕ × ℕ)) (unmet : ℕ → ℕ → Bool)
     (n i : ℕ) (called : List (NameOf d)) (answer : Option d.Value) : Type 0 where
-  pub pair : HasCalled d g (after_all d g (no_work d) log).rows n i called
-  pub evaluated : IsEvaluated d g limits limit (no_work d) log k open_pair n i pair.row.name unmet
-  pub next : next_answer d g (after_all d g (no_work d) log).rows pair.row.name i
-      ≡ join_of d (present_source d (after_all d g (no_work d) log).rows pair.row.name.pred pair.row.name.call) answer
+  pub pair : HasCalled d g (after_all d g start log).rows n i called
+  pub evaluated : IsEvaluated d g limits limit start log k open_pair n i pair.row.name unmet
+  pub next : next_answer d g (after_all d g start log).rows pair.row.name i
+      ≡ join_of d (present_source d (after_all d g start log).rows pair.row.name.pred pair.row.name.call) answer
   pub fits : UpTo (d.leq pair.row.name.pred) answer answer
 
--- Work from no rows stands behind that evaluation, and no growth is due. The pair waits for rows of the names that it called.
-pub record IsWaiting (d : Domain) (g : Program d) (limits : Limits d) (limit : ℕ) (log : List (LogEntry d)) (k : Keeping d) (open_pair : Option
+-- Work stands behind that evaluation, and no growth is due. The pair waits for rows of the names that it called.
+pub record IsWaiting (d : Domain) (g : Program d) (limits : Limits d) (limit : ℕ) (start : Work d) (log : List (LogEntry d)) (k : Keeping d) (open_pair : Option
     (ℕ × ℕ)) (unmet : ℕ → ℕ → Bool)
     (n i : ℕ) (called : List (NameOf d)) : Type 0 where
-  pub working : IsWorking d g limits limit (no_work d) log k open_pair (Some (n, i)) unmet
-  pub pair : HasCalled d g (after_all d g (no_work d) log).rows n i called
+  pub working : IsWorking d g limits limit start log k open_pair (Some (n, i)) unmet
+  pub pair : HasCalled d g (after_all d g start log).rows n i called

@@ -1,7 +1,20 @@
 -- Rows that wait for their dirty pairs to be evaluated.
-use Rattle.std.specs.Prelude.{◌≡◌, ℕ, Bool, true, List}
-use Rattle.std.specs.List.{Contains}
+use Rattle.std.specs.Prelude.{◌≡◌, ◌⊎◌, ◌≤◌, ℕ, Bool, true, List}
+use Rattle.std.specs.List.{list_any, Contains}
+use Rattle.plai_theory.specs.Domain.{Domain}
+use Rattle.plai_arcs.specs.Links.{is_pair}
+use Rattle.plai_fix.specs.WorkStates.{Keeping, is_live}
 
--- each dirty pair's row is among these
-abbrev pub IsQueued : (ℕ → ℕ → Bool) → List ℕ → Type 0
-IsQueued dirty queue = (n m : ℕ) → dirty n m ≡ true → Contains queue n
+-- each live row that has a dirty pair is among these
+abbrev pub IsQueued : {d : Domain} → Keeping d → List ℕ → Type 0
+IsQueued {d} k queue = (n m : ℕ) → is_live d k.rows n ≡ true → k.dirty n m ≡ true → Contains queue n
+
+-- Pairs await rows for what they call: those that did, and the clauses of row n up to the last number.
+pub record Awaits (n last : ℕ) (pending new : ℕ → ℕ → Bool) : Type 0 where
+  pub kept : (a m : ℕ) → pending a m ≡ true → new a m ≡ true
+  pub own : (m : ℕ) → 1 ≤ m → m ≤ last → new n m ≡ true
+  pub only : (a m : ℕ) → new a m ≡ true → (pending a m ≡ true) ⊎ (a ≡ n)
+
+-- whether the pair is in the list
+abbrev pub listed : List (ℕ × ℕ) → ℕ → ℕ → Bool
+listed pairs n m = list_any (is_pair n m) pairs

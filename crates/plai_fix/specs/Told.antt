@@ -1,8 +1,11 @@
 -- Logs of legal work as they are told: the entries that are noted, in order, and what the evaluations among them cost
 -- (Hermenegildo, Puebla, Marriott and Stuckey 2000). Clauses are counted from 0 in logs, from 1 in what is told.
-use Rattle.std.specs.Prelude.{◌≡◌, ℕ, suc, ◌+◌, ◌≤◌, List, [], ◌∷◌, ◌++◌, Option, Some, None}
+use Rattle.std.specs.Prelude.{◌≡◌, ℕ, suc, ◌+◌, ◌≤◌, Bool, map, List, [], ◌∷◌, ◌++◌, Option, Some, None}
 use Rattle.plai_theory.specs.Words.{given, item}
-use Rattle.plai_theory.specs.LegalWork.{LogEntry, Made, Woke, Evaluated, Grew}
+use Rattle.plai_theory.specs.LegalWork.{WorkRow, Work, LogEntry, Made, Woke, Evaluated, Grew}
+use Rattle.plai_theory.specs.Domain.{Name}
+use Rattle.plai_terms.specs.declared.abs.Abs.{Abs}
+use Rattle.plai_terms.specs.declared.pred_key.PredKey.{PredKey}
 use Rattle.plai_domain.specs.declared.work.WorkEntry.{WorkEntry}
 use Rattle.plai_domain.specs.declared.work.WorkEntry.TheVariants as entries
 use Rattle.plai_domain.specs.Plain.{PlainDomain}
@@ -38,9 +41,32 @@ abbrev pub log_cost : (p : PlainDomain) → ProgramView → List (LogEntry (as_d
 log_cost p program [] = 0
 log_cost p program (e ∷ log) = entry_cost p program e + log_cost p program log
 
--- What was told, and how many steps were counted, at a start.
-pub record Start : Type 0 where
+-- What is told of a row under work: it says the same over every domain.
+pub record PlainRow : Type 0 where
+  pub name : Name PredKey Abs
+  pub answer : Option Abs
+  pub live : Bool
+  pub dirty : ℕ → Bool
+  pub calls : ℕ → List (Name PredKey Abs)
+
+abbrev pub row_under : (p : PlainDomain) → PlainRow → WorkRow (as_domain p)
+row_under p r = record { name = r.name; answer = r.answer; live = r.live; dirty = r.dirty; calls = r.calls }
+
+-- work that opens with these rows
+abbrev pub work_over : (p : PlainDomain) → List PlainRow → Work (as_domain p)
+work_over p rows = record { rows = map (row_under p) rows; last = None }
+
+-- Where work begins: its rows, and what was told before.
+pub record Origin : Type 0 where
+  pub rows : List PlainRow
   pub told : Option (List WorkEntry)
+
+abbrev pub start_of : (p : PlainDomain) → Origin → Work (as_domain p)
+start_of p begun = work_over p begun.rows
+
+-- The same, and how many steps were counted before.
+pub record Start : Type 0 where
+  pub origin : Origin
   pub steps : ℕ
 
 -- There is a log of which this holds. What was told since the start is the log, and so many steps are within its cost.

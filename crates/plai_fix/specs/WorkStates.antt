@@ -1,7 +1,7 @@
 -- What a table and its arcs keep of a state of work (Hermenegildo, Puebla, Marriott and Stuckey 2000). Rows are numbered
 -- from 0, as in the table, and clauses from 1.
-use Rattle.std.specs.Prelude.{◌≡◌, ◌↔◌, ◌≤◌, ℕ, zero, suc, Bool, true, false, cond, count_by, List, [], ◌∷◌, Option, Some, None, IsSome}
-use Rattle.plai_theory.specs.Words.{IsIn, HasSome, item}
+use Rattle.std.specs.Prelude.{◌≡◌, ◌↔◌, ◌≤◌, ℕ, zero, suc, Bool, true, false, cond, ◌&&◌, ◌||◌, nat_eq, count_by, List, [], ◌∷◌, Option, Some, None, IsSome}
+use Rattle.plai_theory.specs.Words.{IsIn, HasSome, given, item}
 use Rattle.plai_theory.specs.Domain.{Domain, Program}
 use Rattle.plai_theory.specs.Evaluation.{NameOf, Source, name_of}
 use Rattle.plai_theory.specs.LegalWork.{WorkRow, find, live_count}
@@ -32,6 +32,10 @@ clause_at d g p (suc i) = item (g.clauses p) i
 -- the row of this number has that name
 abbrev pub IsNamed : (d : Domain) → List (KeptRow d) → ℕ → NameOf d → Type 0
 IsNamed d kept j x = HasSome (λ (k : KeptRow d). k.name ≡ x) (item kept j)
+
+-- whether the row of this number is live
+abbrev pub is_live : (d : Domain) → List (KeptRow d) → ℕ → Bool
+is_live d kept n = given false (λ (r : KeptRow d). r.live) (item kept n)
 
 -- A kept row, of number n, and its arcs are those of a row under work. Pairs that are not dirty call the rows whose names
 -- the row's last evaluation called, but for the open pair, if there is one, whose calls are not all set yet.
@@ -66,18 +70,37 @@ pub record IsMet (d : Domain) (g : Program d) (waiting : Option (ℕ × ℕ)) (u
       → r.dirty i ≡ false → (waiting ≡ Some (n, i) → ⊥) → unmet n (suc i) ≡ false → (y : NameOf d) → IsIn y (r.calls i)
       → (q : WorkRow d) × (find d rows y ≡ Some q) × (r.live ≡ true → q.live ≡ true)
 
--- A pair is marked as unmet only where the limit of live rows is met, and then some name that it called is no live row.
+-- The same, but that rows of names that a pending pair called may be dormant where its own row is live.
+pub record IsMetBut (d : Domain) (g : Program d) (pending unmet : ℕ → ℕ → Bool) (rows : List (WorkRow d)) : Type 0 where
+  pub met : (n : ℕ) (r : WorkRow d) → item rows n ≡ Some r → (i : ℕ) (c : d.Clause) → item (g.clauses r.name.pred) i ≡ Some c
+      → r.dirty i ≡ false → unmet n (suc i) ≡ false → (y : NameOf d) → IsIn y (r.calls i)
+      → (q : WorkRow d) × (find d rows y ≡ Some q) × (pending n (suc i) ≡ false → r.live ≡ true → q.live ≡ true)
+
+-- A pair of a live row is marked as unmet only where the limit of live rows is met, and then some name that it called is no
+-- live row.
 pub record IsFull (d : Domain) (g : Program d) (limit : ℕ) (unmet : ℕ → ℕ → Bool) (rows : List (WorkRow d)) : Type 0 where
   pub full : (n m : ℕ) → unmet n m ≡ true → limit ≤ live_count d rows
-  pub pairs : (n m : ℕ) → unmet n m ≡ true → (r : WorkRow d) × (item rows n ≡ Some r) × IsSome (clause_at d g r.name.pred m)
+  pub pairs : (n m : ℕ) → unmet n m ≡ true → (r : WorkRow d) × (item rows n ≡ Some r) × (r.live ≡ true) × IsSome (clause_at d g r.name.pred m)
   pub missing : (n : ℕ) (r : WorkRow d) → item rows n ≡ Some r → (i : ℕ) → r.dirty i ≡ false → unmet n (suc i) ≡ true
       → (y : NameOf d) × IsIn y (r.calls i) × ((q : WorkRow d) → find d rows y ≡ Some q → q.live ≡ false)
+
+-- no pair, and one more pair
+abbrev pub no_pair : ℕ → ℕ → Bool
+no_pair n m = false
+
+abbrev pub with_pair : ℕ → ℕ → (ℕ → ℕ → Bool) → ℕ → ℕ → Bool
+with_pair n m pairs a b = (nat_eq a n && nat_eq b m) || pairs a b
+
+-- no pair of a live row is dirty
+abbrev pub IsClean : (d : Domain) → Keeping d → Type 0
+IsClean d k = (n m : ℕ) → is_live d k.rows n ≡ true → k.dirty n m ≡ false
 
 -- how many kept rows are live
 abbrev pub kept_live : (d : Domain) → List (KeptRow d) → ℕ
 kept_live d kept = count_by (λ (k : KeptRow d). k.live) kept
 
--- As many rows are live, or more, and each name keeps its row.
+-- As many rows are live, or more, and each name keeps its row, which stays live where it is.
 pub record Extends (d : Domain) (kept new : List (KeptRow d)) : Type 0 where
   pub live : kept_live d kept ≤ kept_live d new
   pub names : (j : ℕ) (y : NameOf d) → IsNamed d kept j y → IsNamed d new j y
+  pub lives : (j : ℕ) → is_live d kept j ≡ true → is_live d new j ≡ true

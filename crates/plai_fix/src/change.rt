@@ -8,12 +8,12 @@ pub(crate) enum Change {
     Nothing,
     /// Answers of rows that had one, and nothing else.
     Grown,
-    /// Rows come, or first answers of rows.
+    /// Live rows come, or first answers of rows.
     Opened,
 }
 
 impl Change {
-    /// What it changes that rows came, or that none did.
+    /// What it changes that live rows came, or that none did.
     pub(crate) fn of_rows(added: bool) -> Change
         ensures { result ≡ change_of added }
     {

@@ -1,22 +1,23 @@
 //! The rows of a program's entries.
-ghost use Rattle.std.specs.Prelude.{◌≡◌, ℕ, ◌<◌, ◌++◌, [], ◌∷◌, Bool, true, false, List, Option, map, length, IfOk, OnOk, OnErr};
+ghost use Rattle.std.specs.Prelude.{◌≡◌, ◌⊎◌, ℕ, ◌≤◌, ◌<◌, ◌++◌, [], ◌∷◌, Bool, true, false, List, Option, map, length, IfOk, OnOk, OnErr};
 ghost use Rattle.std.specs.BinaryHeap.{heap_items};
 ghost use Rattle.plai_theory.specs.Domain.{Name};
 ghost use Rattle.plai_theory.specs.Words.{IsIn};
-ghost use Rattle.plai_theory.specs.LegalWork.{IsLegalLog, no_work};
+ghost use Rattle.plai_theory.specs.LegalWork.{IsLegalLog};
 ghost use Rattle.plai_terms.specs.declared.abs.Abs.{Abs};
 ghost use Rattle.plai_terms.specs.declared.pred_key.PredKey.{PredKey};
 ghost use Rattle.plai_domain.specs.declared.work.WorkEntry.{WorkEntry};
 ghost use Rattle.plai_clauses.specs.WellFormed.{IsWellFormed};
 ghost use Rattle.plai_arcs.specs.Arcs.{is_dirty};
 ghost use Rattle.plai_eval.specs.Meaning.{as_domain, as_program};
-ghost use Rattle.plai_fix.specs.WorkStates.{IsNamed};
+ghost use Rattle.plai_fix.specs.WorkStates.{Extends, IsNamed, kept_live};
 ghost use Rattle.plai_fix.specs.Tables.{key_name, kept_rows, state_of};
 ghost use Rattle.plai_fix.specs.Queues.{IsQueued};
-ghost use Rattle.plai_fix.specs.Told.{HasLog};
-ghost use Rattle.plai_fix.specs.Solving.{IsAtWork, AreOfRows, AreOpened};
+ghost use Rattle.plai_fix.specs.Told.{start_of, Origin, HasLog};
+ghost use Rattle.plai_fix.specs.Solving.{IsAtWork, AreOfRows, HasLiveRow, AreOpened};
 ghost use Rattle.plai_fix.specs.Stops.{AreMarkedAs};
 
+use crate::meeting::meet_entry;
 use crate::placing::place;
 use crate::task::Task;
 use plai_arcs::Arcs;
@@ -41,11 +42,47 @@ pub(crate) fn entry_keys<D: Domain>(task: &Task<D>) -> Result<Vec<Key<D::Value>>
     Ok(keys)
 }
 
-/// Places the names of entries, the last first: each has a row, or the limit of live rows is met.
+/// Places the name of an entry: it has a live row then, with all that it calls, or the limit of live rows is met.
+fn place_entry<D: Domain, W: Work>(
+    task: &Task<D>,
+    table: &mut Table<D::Value>,
+    arcs: &mut Arcs,
+    unmet: &mut Arcs,
+    queue: &mut BinaryHeap<u64>,
+    key: Key<D::Value>,
+    work: &mut W,
+) -> Result<(), AllocError>
+    requires well_formed { IsWellFormed task.now.program.now }
+    requires entry { IsIn (key_name D.value_of key) (as_program (D.plain task.now.domain.now) task.now.program.now).entries }
+    requires of_rows { AreOfRows (state_of D.value_of (D.plain task.now.domain.now) table.old.rows arcs.old) }
+    ensures at_work { OnOk result ((begun : Origin) (cost : ℕ)
+        → IsAtWork (D.plain task.now.domain.now) task.now.program.now task.now.limit begun (W.entries work.old) cost
+        (state_of D.value_of (D.plain task.now.domain.now) table.old.rows arcs.old) (is_dirty unmet.old)
+        → IsAtWork (D.plain task.now.domain.now) task.now.program.now task.now.limit begun (W.entries work.new) cost
+        (state_of D.value_of (D.plain task.now.domain.now) table.new.rows arcs.new) (is_dirty unmet.new)) }
+    ensures told { OnErr result ((begun : Origin) (cost : ℕ)
+        → IsAtWork (D.plain task.now.domain.now) task.now.program.now task.now.limit begun (W.entries work.old) cost
+        (state_of D.value_of (D.plain task.now.domain.now) table.old.rows arcs.old) (is_dirty unmet.old)
+        → HasLog (D.plain task.now.domain.now) task.now.program.now begun.told (W.entries work.new) 0
+        (IsLegalLog (as_domain (D.plain task.now.domain.now)) (as_program (D.plain task.now.domain.now) task.now.program.now) task.now.limit (start_of (D.plain task.now.domain.now) begun))) }
+    ensures of_rows { OnOk result (AreOfRows (state_of D.value_of (D.plain task.now.domain.now) table.new.rows arcs.new)) }
+    ensures live { OnOk result (HasLiveRow (as_domain (D.plain task.now.domain.now)) (kept_rows D.value_of (D.plain task.now.domain.now) table.new.rows) (key_name D.value_of key)
+        ⊎ (task.now.limit ≤ kept_live (as_domain (D.plain task.now.domain.now)) (kept_rows D.value_of (D.plain task.now.domain.now) table.new.rows))) }
+    ensures extends { OnOk result (Extends (as_domain (D.plain task.now.domain.now)) (kept_rows D.value_of (D.plain task.now.domain.now) table.old.rows) (kept_rows D.value_of (D.plain task.now.domain.now) table.new.rows)) }
+    ensures queued { IsQueued (state_of D.value_of (D.plain task.now.domain.now) table.old.rows arcs.old) (heap_items queue.old) → OnOk result (IsQueued (state_of D.value_of (D.plain task.now.domain.now) table.new.rows arcs.new) (heap_items queue.new)) }
+{
+    match place(task, table, arcs, queue, key, work)? {
+        Some(row) => meet_entry(task, table, arcs, unmet, queue, row, work),
+        None => Ok(()),
+    }
+}
+
+/// Places the names of entries, the last first: each has a live row, or the limit of live rows is met.
 pub(crate) fn place_entries<D: Domain, W: Work>(
     task: &Task<D>,
     table: &mut Table<D::Value>,
     arcs: &mut Arcs,
+    unmet: &mut Arcs,
     queue: &mut BinaryHeap<u64>,
     keys: Vec<Key<D::Value>>,
     work: &mut W,
@@ -53,24 +90,23 @@ pub(crate) fn place_entries<D: Domain, W: Work>(
     requires well_formed { IsWellFormed task.now.program.now }
     requires keys { map (key_name D.value_of) keys.items ≡ (as_program (D.plain task.now.domain.now) task.now.program.now).entries }
     requires of_rows { AreOfRows (state_of D.value_of (D.plain task.now.domain.now) table.old.rows arcs.old) }
-    ensures at_work { OnOk result ((begun : Option (List WorkEntry)) (cost : ℕ) (unmet : ℕ → ℕ → Bool)
+    ensures at_work { OnOk result ((begun : Origin) (cost : ℕ)
         → IsAtWork (D.plain task.now.domain.now) task.now.program.now task.now.limit begun (W.entries work.old) cost
-        (state_of D.value_of (D.plain task.now.domain.now) table.old.rows arcs.old) unmet
+        (state_of D.value_of (D.plain task.now.domain.now) table.old.rows arcs.old) (is_dirty unmet.old)
         → IsAtWork (D.plain task.now.domain.now) task.now.program.now task.now.limit begun (W.entries work.new) cost
-        (state_of D.value_of (D.plain task.now.domain.now) table.new.rows arcs.new) unmet) }
-    ensures told { OnErr result ((begun : Option (List WorkEntry)) (cost : ℕ) (unmet : ℕ → ℕ → Bool)
+        (state_of D.value_of (D.plain task.now.domain.now) table.new.rows arcs.new) (is_dirty unmet.new)) }
+    ensures told { OnErr result ((begun : Origin) (cost : ℕ)
         → IsAtWork (D.plain task.now.domain.now) task.now.program.now task.now.limit begun (W.entries work.old) cost
-        (state_of D.value_of (D.plain task.now.domain.now) table.old.rows arcs.old) unmet
-        → HasLog (D.plain task.now.domain.now) task.now.program.now begun (W.entries work.new) 0
-        (IsLegalLog (as_domain (D.plain task.now.domain.now)) (as_program (D.plain task.now.domain.now) task.now.program.now) task.now.limit
-        (no_work (as_domain (D.plain task.now.domain.now))))) }
+        (state_of D.value_of (D.plain task.now.domain.now) table.old.rows arcs.old) (is_dirty unmet.old)
+        → HasLog (D.plain task.now.domain.now) task.now.program.now begun.told (W.entries work.new) 0
+        (IsLegalLog (as_domain (D.plain task.now.domain.now)) (as_program (D.plain task.now.domain.now) task.now.program.now) task.now.limit (start_of (D.plain task.now.domain.now) begun))) }
     ensures opened { OnOk result (AreOpened (as_domain (D.plain task.now.domain.now))
         (as_program (D.plain task.now.domain.now) task.now.program.now) task.now.limit (kept_rows D.value_of (D.plain task.now.domain.now) table.new.rows)) }
-    ensures queued { IsQueued (is_dirty arcs.old) (heap_items queue.old) → OnOk result (IsQueued (is_dirty arcs.new) (heap_items queue.new)) }
+    ensures queued { IsQueued (state_of D.value_of (D.plain task.now.domain.now) table.old.rows arcs.old) (heap_items queue.old) → OnOk result (IsQueued (state_of D.value_of (D.plain task.now.domain.now) table.new.rows arcs.new) (heap_items queue.new)) }
 {
     let mut keys = keys;
     while let Some(key) = keys.pop() {
-        let _ = place(task, table, arcs, queue, key, work)?;
+        place_entry(task, table, arcs, unmet, queue, key, work)?;
     }
     Ok(())
 }
@@ -85,28 +121,29 @@ fn clear_marks<D: Domain>(_domain: &D, table: &mut Table<D::Value>)
     }
 }
 
-/// Marks the row of the name as an entry's. Whether it has one.
+/// Marks the row of the name as an entry's. Whether it has one that is live.
 fn mark_entry<D: Domain>(_domain: &D, table: &mut Table<D::Value>, key: &Key<D::Value>) -> bool
     requires { (i j : ℕ) (y : Name PredKey Abs) → IsNamed (as_domain (D.plain _domain.now)) (kept_rows D.value_of (D.plain _domain.now) table.old.rows) i y
         → IsNamed (as_domain (D.plain _domain.now)) (kept_rows D.value_of (D.plain _domain.now) table.old.rows) j y → i ≡ j }
     ensures same { kept_rows D.value_of (D.plain _domain.now) table.new.rows ≡ kept_rows D.value_of (D.plain _domain.now) table.old.rows }
     ensures marked { (names : List (Name PredKey Abs)) → AreMarkedAs D.value_of names table.old.rows
         → AreMarkedAs D.value_of (names ++ key_name D.value_of key.now ∷ []) table.new.rows }
-    ensures found { result ≡ true → (j : ℕ) × IsNamed (as_domain (D.plain _domain.now)) (kept_rows D.value_of (D.plain _domain.now) table.old.rows) j
+    ensures found { result ≡ true → HasLiveRow (as_domain (D.plain _domain.now)) (kept_rows D.value_of (D.plain _domain.now) table.old.rows)
         (key_name D.value_of key.now) }
-    ensures absent { result ≡ false → (j : ℕ) → IsNamed (as_domain (D.plain _domain.now)) (kept_rows D.value_of (D.plain _domain.now) table.old.rows) j
+    ensures absent { result ≡ false → HasLiveRow (as_domain (D.plain _domain.now)) (kept_rows D.value_of (D.plain _domain.now) table.old.rows)
         (key_name D.value_of key.now) → ⊥ }
 {
     match table.find(key) {
         Some(row) => {
+            let live = table.row(row).live;
             table.set_entry(row, true);
-            true
+            live
         }
         None => false,
     }
 }
 
-/// Marks the rows of these names as an entry's, and no other. Whether each name has a row.
+/// Marks the rows of these names as an entry's, and no other. Whether each name has a live row.
 pub(crate) fn mark_entries<D: Domain>(
     domain: &D,
     table: &mut Table<D::Value>,
@@ -117,9 +154,9 @@ pub(crate) fn mark_entries<D: Domain>(
     ensures same { kept_rows D.value_of (D.plain domain.now) table.new.rows ≡ kept_rows D.value_of (D.plain domain.now) table.old.rows }
     ensures marked { AreMarkedAs D.value_of (map (key_name D.value_of) keys.now) table.new.rows }
     ensures found { result ≡ true → (x : Name PredKey Abs) → IsIn x (map (key_name D.value_of) keys.now)
-        → (j : ℕ) × IsNamed (as_domain (D.plain domain.now)) (kept_rows D.value_of (D.plain domain.now) table.old.rows) j x }
+        → HasLiveRow (as_domain (D.plain domain.now)) (kept_rows D.value_of (D.plain domain.now) table.old.rows) x }
     ensures absent { result ≡ false → (x : Name PredKey Abs) × IsIn x (map (key_name D.value_of) keys.now)
-        × ((j : ℕ) → IsNamed (as_domain (D.plain domain.now)) (kept_rows D.value_of (D.plain domain.now) table.old.rows) j x → ⊥) }
+        × (HasLiveRow (as_domain (D.plain domain.now)) (kept_rows D.value_of (D.plain domain.now) table.old.rows) x → ⊥) }
 {
     clear_marks(domain, table);
     let mut all = true;

@@ -19,6 +19,7 @@ ghost use Rattle.plai_fix.specs.WorkStates.{Extends};
 ghost use Rattle.plai_fix.specs.Tables.{kept_rows, state_of};
 ghost use Rattle.plai_fix.specs.Changes.{Answers};
 ghost use Rattle.plai_fix.specs.Queues.{IsQueued};
+ghost use Rattle.plai_fix.specs.Told.{Origin};
 ghost use Rattle.plai_fix.specs.Solving.{IsPastEvaluation, IsPastGrowth};
 ghost use Rattle.plai_fix.specs.Moves.{Shifts};
 
@@ -51,7 +52,7 @@ pub(crate) fn grow_row<D: Domain, W: Work>(
         (state_of D.value_of (D.plain task.now.domain.now) table.new.rows arcs.new) row (Some (D.value_of answer))) }
     ensures noted { OnOk result ((name : Key D.Value) → slice_get (names_of table.old.rows) row ≡ Some name
         → W.entries work.new ≡ noted (entries.Grew (name_of D.value_of name) (D.value_of answer)) (W.entries work.old)) }
-    ensures queued { IsQueued (is_dirty arcs.old) (heap_items queue.old) → OnOk result (IsQueued (is_dirty arcs.new) (heap_items queue.new)) }
+    ensures queued { IsQueued (state_of D.value_of (D.plain task.now.domain.now) table.old.rows arcs.old) (heap_items queue.old) → OnOk result (IsQueued (state_of D.value_of (D.plain task.now.domain.now) table.new.rows arcs.new) (heap_items queue.new)) }
     ensures nothing { OnErr result (W.entries work.new ≡ W.entries work.old) }
 {
     let callers = callers_of(task.alloc, arcs, row)?;
@@ -78,7 +79,7 @@ pub(crate) fn settle_answer<D: Domain, W: Work, L: Ledger>(
     requires row { row < length table.old.rows }
     requires alike { (r : TableRow D.Value) (a b : D.Value) → slice_get table.old.rows row ≡ Some r → r.answer ≡ Some a → answer ≡ Some b
         → AreAlike (D.plain task.now.domain.now) (D.value_of a) (D.value_of b) }
-    ensures settled { IfOk result (λ change. (begun : Option (List WorkEntry)) (cost : ℕ) (unmet : ℕ → ℕ → Bool) (i : ℕ) (called : List (Name PredKey Abs))
+    ensures settled { IfOk result (λ change. (begun : Origin) (cost : ℕ) (unmet : ℕ → ℕ → Bool) (i : ℕ) (called : List (Name PredKey Abs))
         → IsPastEvaluation (D.plain task.now.domain.now) task.now.program.now task.now.limit begun (W.entries work.old) cost
         (state_of D.value_of (D.plain task.now.domain.now) table.old.rows arcs.old) unmet None row i called (option_map D.value_of answer)
         → IsPastGrowth (D.plain task.now.domain.now) task.now.program.now task.now.limit begun (W.entries work.new) cost
@@ -86,7 +87,7 @@ pub(crate) fn settle_answer<D: Domain, W: Work, L: Ledger>(
         × Shifts (as_domain (D.plain task.now.domain.now)) (as_program (D.plain task.now.domain.now) task.now.program.now) task.now.limit
         (λ pred. (D.plain task.now.domain.now).rank) (state_of D.value_of (D.plain task.now.domain.now) table.old.rows arcs.old)
         (state_of D.value_of (D.plain task.now.domain.now) table.new.rows arcs.new) change) }
-    ensures queued { IsQueued (is_dirty arcs.old) (heap_items queue.old) → OnOk result (IsQueued (is_dirty arcs.new) (heap_items queue.new)) }
+    ensures queued { IsQueued (state_of D.value_of (D.plain task.now.domain.now) table.old.rows arcs.old) (heap_items queue.old) → OnOk result (IsQueued (state_of D.value_of (D.plain task.now.domain.now) table.new.rows arcs.new) (heap_items queue.new)) }
     ensures extends { OnOk result (Extends (as_domain (D.plain task.now.domain.now)) (kept_rows D.value_of (D.plain task.now.domain.now) table.old.rows)
         (kept_rows D.value_of (D.plain task.now.domain.now) table.new.rows)) }
     ensures nothing { OnErr result (W.entries work.new ≡ W.entries work.old) }

@@ -9,7 +9,7 @@ ghost use Rattle.plai_clauses.specs.WellFormed.{IsWellFormed};
 ghost use Rattle.plai_table.specs.Rows.{names_of};
 ghost use Rattle.plai_arcs.specs.Arcs.{is_dirty};
 ghost use Rattle.plai_eval.specs.Meaning.{as_domain, as_program};
-ghost use Rattle.plai_fix.specs.WorkStates.{Extends};
+ghost use Rattle.plai_fix.specs.WorkStates.{Extends, is_live};
 ghost use Rattle.plai_fix.specs.Changes.{SetsCalls};
 ghost use Rattle.plai_fix.specs.LookUps.{Looks};
 ghost use Rattle.plai_fix.specs.Tables.{key_name, kept_rows, state_of};
@@ -22,7 +22,7 @@ ghost use Rattle.plai_fix.specs.declared.change.Change.TheVariants.{Nothing};
 
 use crate::calling::set_pair_calls;
 use crate::change::Change;
-use crate::closing::place_missing;
+use crate::closing::place_called;
 use crate::evaluation::evaluate_pair;
 use crate::growing::settle_answer;
 use crate::looking::look_up_all;
@@ -56,7 +56,7 @@ fn due_clause<'a, D: Domain>(
     &clauses[(number - 1) as usize]
 }
 
-/// Evaluates a dirty pair, a clause by its number from 1, and notes it: it is dirty no more, and not marked as unmet.
+/// Evaluates a dirty pair of a live row, a clause by its number from 1, and notes it: it is dirty no more, and not marked as unmet.
 fn evaluate_due<D: Domain, W: Work, L: Ledger>(
     task: &Task<D>,
     table: &Table<D::Value>,
@@ -69,10 +69,11 @@ fn evaluate_due<D: Domain, W: Work, L: Ledger>(
 ) -> Result<Evaluated<D>, SolveFail>
     ghost begun: { Start }
     requires well_formed { IsWellFormed task.now.program.now }
-    requires at_work { IsAtWork (D.plain task.now.domain.now) task.now.program.now task.now.limit begun.told (W.entries work.old) (steps.old - begun.steps)
+    requires at_work { IsAtWork (D.plain task.now.domain.now) task.now.program.now task.now.limit begun.origin (W.entries work.old) (steps.old - begun.steps)
         (state_of D.value_of (D.plain task.now.domain.now) table.now.rows arcs.old) (is_dirty unmet.old) }
     requires dirty { is_dirty arcs.old row number ≡ true }
-    ensures evaluated { IfOk result (λ e. IsPastEvaluation (D.plain task.now.domain.now) task.now.program.now task.now.limit begun.told (W.entries work.new)
+    requires live { is_live (as_domain (D.plain task.now.domain.now)) (kept_rows D.value_of (D.plain task.now.domain.now) table.now.rows) row ≡ true }
+    ensures evaluated { IfOk result (λ e. IsPastEvaluation (D.plain task.now.domain.now) task.now.program.now task.now.limit begun.origin (W.entries work.new)
         (steps.new - begun.steps + 1)
         (state_of D.value_of (D.plain task.now.domain.now) table.now.rows arcs.new) (is_dirty unmet.new) (Some (row, number - 1)) row (number - 1)
         (map (key_name D.value_of) e.calls) (option_map D.value_of e.answer)) }
@@ -81,7 +82,7 @@ fn evaluate_due<D: Domain, W: Work, L: Ledger>(
         (state_of D.value_of (D.plain task.now.domain.now) table.now.rows arcs.new) Nothing) }
     ensures dirty { OnOk result ((r c : ℕ) → is_dirty arcs.new r c ≡ true → is_dirty arcs.old r c ≡ true) }
     ensures some { OnOk result (1 ≤ number) }
-    ensures stops { IfErr result (Stops (D.plain task.now.domain.now) task.now.program.now task.now.limit begun.told (W.entries work.new)
+    ensures stops { IfErr result (Stops (D.plain task.now.domain.now) task.now.program.now task.now.limit begun.origin (W.entries work.new)
         (steps.new - begun.steps)) }
 {
     let clause = due_clause(task.domain, task.program, table, row, number);
@@ -131,7 +132,8 @@ fn link_calls<D: Domain>(
     )
 }
 
-/// Works a dirty pair, a clause by its number from 1: its evaluation, its calls, its growth, and rows for what it called.
+/// Works a dirty pair of a live row, a clause by its number from 1: its evaluation, its calls, its growth, and live rows for
+/// what it called.
 pub(crate) fn work_pair<D: Domain, W: Work, L: Ledger>(
     task: &Task<D>,
     table: &mut Table<D::Value>,
@@ -145,20 +147,21 @@ pub(crate) fn work_pair<D: Domain, W: Work, L: Ledger>(
 ) -> Result<Change, SolveFail>
     ghost begun: { Start }
     requires well_formed { IsWellFormed task.now.program.now }
-    requires at_work { IsAtWork (D.plain task.now.domain.now) task.now.program.now task.now.limit begun.told (W.entries work.old) (steps.old - begun.steps)
+    requires at_work { IsAtWork (D.plain task.now.domain.now) task.now.program.now task.now.limit begun.origin (W.entries work.old) (steps.old - begun.steps)
         (state_of D.value_of (D.plain task.now.domain.now) table.old.rows arcs.old) (is_dirty unmet.old) }
     requires dirty { is_dirty arcs.old row number ≡ true }
-    requires queued { IsQueued (is_dirty arcs.old) (heap_items queue.old) }
-    ensures at_work { OnOk result (IsAtWork (D.plain task.now.domain.now) task.now.program.now task.now.limit begun.told (W.entries work.new)
+    requires live { is_live (as_domain (D.plain task.now.domain.now)) (kept_rows D.value_of (D.plain task.now.domain.now) table.old.rows) row ≡ true }
+    requires queued { IsQueued (state_of D.value_of (D.plain task.now.domain.now) table.old.rows arcs.old) (heap_items queue.old) }
+    ensures at_work { OnOk result (IsAtWork (D.plain task.now.domain.now) task.now.program.now task.now.limit begun.origin (W.entries work.new)
         (steps.new - begun.steps)
         (state_of D.value_of (D.plain task.now.domain.now) table.new.rows arcs.new) (is_dirty unmet.new)) }
-    ensures queued { OnOk result (IsQueued (is_dirty arcs.new) (heap_items queue.new)) }
+    ensures queued { OnOk result (IsQueued (state_of D.value_of (D.plain task.now.domain.now) table.new.rows arcs.new) (heap_items queue.new)) }
     ensures moves { IfOk result (Moves (as_domain (D.plain task.now.domain.now)) (as_program (D.plain task.now.domain.now) task.now.program.now) task.now.limit
         (λ pred. (D.plain task.now.domain.now).rank) (state_of D.value_of (D.plain task.now.domain.now) table.old.rows arcs.old)
         (state_of D.value_of (D.plain task.now.domain.now) table.new.rows arcs.new)) }
     ensures extends { OnOk result (Extends (as_domain (D.plain task.now.domain.now)) (kept_rows D.value_of (D.plain task.now.domain.now) table.old.rows)
         (kept_rows D.value_of (D.plain task.now.domain.now) table.new.rows)) }
-    ensures stops { IfErr result (Stops (D.plain task.now.domain.now) task.now.program.now task.now.limit begun.told (W.entries work.new)
+    ensures stops { IfErr result (Stops (D.plain task.now.domain.now) task.now.program.now task.now.limit begun.origin (W.entries work.new)
         (steps.new - begun.steps)) }
 {
     let Evaluated { answer, calls } = evaluate_due(
@@ -177,7 +180,7 @@ pub(crate) fn work_pair<D: Domain, W: Work, L: Ledger>(
         &mut missing,
     )?;
     let grown = settle_answer(task, table, arcs, queue, row, answer, work, steps)?;
-    let placed = place_missing(
+    let placed = place_called(
         task, table, arcs, unmet, queue, row, number, rows, missing, work,
     )?;
     Ok(grown.and(placed))

@@ -3,7 +3,7 @@ ghost use Rattle.std.specs.Prelude.{◌≡◌, ℕ, ◌≤◌, ◌<◌, ◌&&◌
 ghost use Rattle.std.specs.List.{list_any};
 ghost use Rattle.std.specs.BinaryHeap.{heap_items};
 ghost use Rattle.plai_theory.specs.Domain.{Name};
-ghost use Rattle.plai_theory.specs.LegalWork.{IsLegalLog, no_work};
+ghost use Rattle.plai_theory.specs.LegalWork.{IsLegalLog};
 ghost use Rattle.plai_terms.specs.declared.abs.Abs.{Abs};
 ghost use Rattle.plai_terms.specs.declared.pred_key.PredKey.{PredKey};
 ghost use Rattle.plai_domain.specs.declared.key.Key.{Key};
@@ -20,7 +20,7 @@ ghost use Rattle.plai_fix.specs.WorkStates.{Extends};
 ghost use Rattle.plai_fix.specs.Marks.{is_number};
 ghost use Rattle.plai_fix.specs.Tables.{key_name, kept_rows, state_of};
 ghost use Rattle.plai_fix.specs.Queues.{IsQueued};
-ghost use Rattle.plai_fix.specs.Told.{HasLog};
+ghost use Rattle.plai_fix.specs.Told.{start_of, Origin, HasLog};
 ghost use Rattle.plai_fix.specs.Solving.{Places, AreOfRows, IsPlacing};
 ghost use Rattle.plai_fix.specs.Moves.{Adds};
 
@@ -48,7 +48,7 @@ fn begin_row<D: Domain, W: Work>(
     ensures calls { OnOk result ((r c q : ℕ) → is_call arcs.new r c q ≡ is_call arcs.old r c q) }
     ensures noted { OnOk result ((name : Key D.Value) → slice_get (names_of table.now.rows) row ≡ Some name
         → W.entries work.new ≡ noted (entries.Made (name_of D.value_of name)) (W.entries work.old)) }
-    ensures queued { IsQueued (is_dirty arcs.old) (heap_items queue.old) → OnOk result (IsQueued (is_dirty arcs.new) (heap_items queue.new)) }
+    ensures queued { IsQueued (state_of D.value_of (D.plain task.now.domain.now) table.now.rows arcs.old) (heap_items queue.old) → OnOk result (IsQueued (state_of D.value_of (D.plain task.now.domain.now) table.now.rows arcs.new) (heap_items queue.new)) }
     ensures nothing { OnErr result (W.entries work.new ≡ W.entries work.old) }
 {
     let name = table.row(row).name;
@@ -72,7 +72,7 @@ pub(crate) fn place<D: Domain, W: Work>(
     ensures placed { IfOk result (Places (D.plain task.now.domain.now) task.now.program.now task.now.limit (key_name D.value_of name)
         (state_of D.value_of (D.plain task.now.domain.now) table.old.rows arcs.old) (W.entries work.old)
         (state_of D.value_of (D.plain task.now.domain.now) table.new.rows arcs.new) (W.entries work.new)) }
-    ensures queued { IsQueued (is_dirty arcs.old) (heap_items queue.old) → OnOk result (IsQueued (is_dirty arcs.new) (heap_items queue.new)) }
+    ensures queued { IsQueued (state_of D.value_of (D.plain task.now.domain.now) table.old.rows arcs.old) (heap_items queue.old) → OnOk result (IsQueued (state_of D.value_of (D.plain task.now.domain.now) table.new.rows arcs.new) (heap_items queue.new)) }
     ensures nothing { OnErr result (W.entries work.new ≡ W.entries work.old) }
 {
     if let Some(row) = table.find(&name) {
@@ -102,26 +102,26 @@ fn place_next<D: Domain, W: Work>(
 ) -> Result<bool, AllocError>
     requires well_formed { IsWellFormed task.now.program.now }
     requires of_rows { AreOfRows (state_of D.value_of (D.plain task.now.domain.now) table.old.rows arcs.old) }
-    ensures placing { IfOk result (λ met. (begun : Option (List WorkEntry)) (cost : ℕ) (unmet : ℕ → ℕ → Bool) (n i : ℕ) (called left : List (Name PredKey Abs))
+    ensures placing { IfOk result (λ met. (begun : Origin) (cost : ℕ) (unmet : ℕ → ℕ → Bool) (n i : ℕ) (called left : List (Name PredKey Abs))
         → IsPlacing (D.plain task.now.domain.now) task.now.program.now task.now.limit begun (W.entries work.old) cost
         (state_of D.value_of (D.plain task.now.domain.now) table.old.rows arcs.old) unmet n i called (λ j. list_any (nat_eq j) rows.old.items)
         (left ++ key_name D.value_of name ∷ []) full
         → IsPlacing (D.plain task.now.domain.now) task.now.program.now task.now.limit begun (W.entries work.new) cost
         (state_of D.value_of (D.plain task.now.domain.now) table.new.rows arcs.new) unmet n i called (λ j. list_any (nat_eq j) rows.new.items) left met) }
-    ensures told { OnErr result ((begun : Option (List WorkEntry)) (cost : ℕ) (unmet : ℕ → ℕ → Bool) (n i : ℕ) (called left : List (Name PredKey Abs))
+    ensures told { OnErr result ((begun : Origin) (cost : ℕ) (unmet : ℕ → ℕ → Bool) (n i : ℕ) (called left : List (Name PredKey Abs))
         → IsPlacing (D.plain task.now.domain.now) task.now.program.now task.now.limit begun (W.entries work.old) cost
         (state_of D.value_of (D.plain task.now.domain.now) table.old.rows arcs.old) unmet n i called (λ j. list_any (nat_eq j) rows.old.items)
         (left ++ key_name D.value_of name ∷ []) full
-        → HasLog (D.plain task.now.domain.now) task.now.program.now begun (W.entries work.new) 0
+        → HasLog (D.plain task.now.domain.now) task.now.program.now begun.told (W.entries work.new) 0
         (IsLegalLog (as_domain (D.plain task.now.domain.now)) (as_program (D.plain task.now.domain.now) task.now.program.now) task.now.limit
-        (no_work (as_domain (D.plain task.now.domain.now))))) }
+        (start_of (D.plain task.now.domain.now) begun))) }
     ensures of_rows { OnOk result (AreOfRows (state_of D.value_of (D.plain task.now.domain.now) table.new.rows arcs.new)) }
     ensures adds { OnOk result (Adds (as_domain (D.plain task.now.domain.now)) task.now.limit
         (state_of D.value_of (D.plain task.now.domain.now) table.old.rows arcs.old)
         (state_of D.value_of (D.plain task.now.domain.now) table.new.rows arcs.new)) }
     ensures extends { OnOk result (Extends (as_domain (D.plain task.now.domain.now)) (kept_rows D.value_of (D.plain task.now.domain.now) table.old.rows)
         (kept_rows D.value_of (D.plain task.now.domain.now) table.new.rows)) }
-    ensures queued { IsQueued (is_dirty arcs.old) (heap_items queue.old) → OnOk result (IsQueued (is_dirty arcs.new) (heap_items queue.new)) }
+    ensures queued { IsQueued (state_of D.value_of (D.plain task.now.domain.now) table.old.rows arcs.old) (heap_items queue.old) → OnOk result (IsQueued (state_of D.value_of (D.plain task.now.domain.now) table.new.rows arcs.new) (heap_items queue.new)) }
 {
     match place(task, table, arcs, queue, name, work)? {
         Some(row) => {
@@ -145,25 +145,25 @@ pub(crate) fn place_all<D: Domain, W: Work>(
 ) -> Result<bool, AllocError>
     requires well_formed { IsWellFormed task.now.program.now }
     requires of_rows { AreOfRows (state_of D.value_of (D.plain task.now.domain.now) table.old.rows arcs.old) }
-    ensures placing { IfOk result (λ met. (begun : Option (List WorkEntry)) (cost : ℕ) (unmet : ℕ → ℕ → Bool) (n i : ℕ) (called : List (Name PredKey Abs))
+    ensures placing { IfOk result (λ met. (begun : Origin) (cost : ℕ) (unmet : ℕ → ℕ → Bool) (n i : ℕ) (called : List (Name PredKey Abs))
         → IsPlacing (D.plain task.now.domain.now) task.now.program.now task.now.limit begun (W.entries work.old) cost
         (state_of D.value_of (D.plain task.now.domain.now) table.old.rows arcs.old) unmet n i called (λ j. list_any (nat_eq j) rows.old.items)
         (map (key_name D.value_of) missing.items) false
         → IsPlacing (D.plain task.now.domain.now) task.now.program.now task.now.limit begun (W.entries work.new) cost
         (state_of D.value_of (D.plain task.now.domain.now) table.new.rows arcs.new) unmet n i called (λ j. list_any (nat_eq j) rows.new.items) [] met) }
-    ensures told { OnErr result ((begun : Option (List WorkEntry)) (cost : ℕ) (unmet : ℕ → ℕ → Bool) (n i : ℕ) (called : List (Name PredKey Abs))
+    ensures told { OnErr result ((begun : Origin) (cost : ℕ) (unmet : ℕ → ℕ → Bool) (n i : ℕ) (called : List (Name PredKey Abs))
         → IsPlacing (D.plain task.now.domain.now) task.now.program.now task.now.limit begun (W.entries work.old) cost
         (state_of D.value_of (D.plain task.now.domain.now) table.old.rows arcs.old) unmet n i called (λ j. list_any (nat_eq j) rows.old.items)
         (map (key_name D.value_of) missing.items) false
-        → HasLog (D.plain task.now.domain.now) task.now.program.now begun (W.entries work.new) 0
+        → HasLog (D.plain task.now.domain.now) task.now.program.now begun.told (W.entries work.new) 0
         (IsLegalLog (as_domain (D.plain task.now.domain.now)) (as_program (D.plain task.now.domain.now) task.now.program.now) task.now.limit
-        (no_work (as_domain (D.plain task.now.domain.now))))) }
+        (start_of (D.plain task.now.domain.now) begun))) }
     ensures adds { OnOk result (Adds (as_domain (D.plain task.now.domain.now)) task.now.limit
         (state_of D.value_of (D.plain task.now.domain.now) table.old.rows arcs.old)
         (state_of D.value_of (D.plain task.now.domain.now) table.new.rows arcs.new)) }
     ensures extends { OnOk result (Extends (as_domain (D.plain task.now.domain.now)) (kept_rows D.value_of (D.plain task.now.domain.now) table.old.rows)
         (kept_rows D.value_of (D.plain task.now.domain.now) table.new.rows)) }
-    ensures queued { IsQueued (is_dirty arcs.old) (heap_items queue.old) → OnOk result (IsQueued (is_dirty arcs.new) (heap_items queue.new)) }
+    ensures queued { IsQueued (state_of D.value_of (D.plain task.now.domain.now) table.old.rows arcs.old) (heap_items queue.old) → OnOk result (IsQueued (state_of D.value_of (D.plain task.now.domain.now) table.new.rows arcs.new) (heap_items queue.new)) }
 {
     let mut missing = missing;
     let mut full = false;

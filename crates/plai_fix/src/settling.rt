@@ -1,10 +1,10 @@
-//! Dirty pairs, worked until none is left.
+//! Dirty pairs of live rows, worked until none is left.
 ghost use Rattle.std.specs.Prelude.{◌≡◌, ℕ, ◌-◌, true, false, IfOk, IfErr, OnOk};
 ghost use Rattle.std.specs.BinaryHeap.{heap_items};
 ghost use Rattle.plai_clauses.specs.WellFormed.{IsWellFormed};
 ghost use Rattle.plai_arcs.specs.Arcs.{is_dirty};
 ghost use Rattle.plai_eval.specs.Meaning.{as_domain};
-ghost use Rattle.plai_fix.specs.WorkStates.{Extends};
+ghost use Rattle.plai_fix.specs.WorkStates.{Extends, IsClean};
 ghost use Rattle.plai_fix.specs.Tables.{kept_rows, state_of};
 ghost use Rattle.plai_fix.specs.Queues.{IsQueued};
 ghost use Rattle.plai_fix.specs.Told.{Start};
@@ -36,22 +36,22 @@ fn work_clauses<D: Domain, W: Work, L: Ledger>(
 ) -> Result<Change, SolveFail>
     ghost begun: { Start }
     requires well_formed { IsWellFormed task.now.program.now }
-    requires at_work { IsAtWork (D.plain task.now.domain.now) task.now.program.now task.now.limit begun.told (W.entries work.old) (steps.old - begun.steps)
+    requires at_work { IsAtWork (D.plain task.now.domain.now) task.now.program.now task.now.limit begun.origin (W.entries work.old) (steps.old - begun.steps)
         (state_of D.value_of (D.plain task.now.domain.now) table.old.rows arcs.old) (is_dirty unmet.old) }
-    requires queued { IsQueued (is_dirty arcs.old) (heap_items queue.old) }
-    ensures at_work { OnOk result (IsAtWork (D.plain task.now.domain.now) task.now.program.now task.now.limit begun.told (W.entries work.new)
+    requires queued { IsQueued (state_of D.value_of (D.plain task.now.domain.now) table.old.rows arcs.old) (heap_items queue.old) }
+    ensures at_work { OnOk result (IsAtWork (D.plain task.now.domain.now) task.now.program.now task.now.limit begun.origin (W.entries work.new)
         (steps.new - begun.steps)
         (state_of D.value_of (D.plain task.now.domain.now) table.new.rows arcs.new) (is_dirty unmet.new)) }
-    ensures queued { OnOk result (IsQueued (is_dirty arcs.new) (heap_items queue.new)) }
+    ensures queued { OnOk result (IsQueued (state_of D.value_of (D.plain task.now.domain.now) table.new.rows arcs.new) (heap_items queue.new)) }
     ensures extends { OnOk result (Extends (as_domain (D.plain task.now.domain.now)) (kept_rows D.value_of (D.plain task.now.domain.now) table.old.rows)
         (kept_rows D.value_of (D.plain task.now.domain.now) table.new.rows)) }
     ensures rests { IfOk result (Rests (as_domain (D.plain task.now.domain.now)) task.now.limit (λ pred. (D.plain task.now.domain.now).rank)
         (state_of D.value_of (D.plain task.now.domain.now) table.old.rows arcs.old) (state_of D.value_of
         (D.plain task.now.domain.now) table.new.rows arcs.new)) }
-    ensures stops { IfErr result (Stops (D.plain task.now.domain.now) task.now.program.now task.now.limit begun.told (W.entries work.new)
+    ensures stops { IfErr result (Stops (D.plain task.now.domain.now) task.now.program.now task.now.limit begun.origin (W.entries work.new)
         (steps.new - begun.steps)) }
 {
-    while let Some((row, number)) = next_pair(queue, arcs) {
+    while let Some((row, number)) = next_pair(task.domain, table, arcs, queue) {
         match work_pair(task, table, arcs, unmet, queue, row, number, work, steps)? {
             Change::Nothing => {}
             change => return Ok(change),
@@ -72,19 +72,19 @@ fn work_answers<D: Domain, W: Work, L: Ledger>(
 ) -> Result<Change, SolveFail>
     ghost begun: { Start }
     requires well_formed { IsWellFormed task.now.program.now }
-    requires at_work { IsAtWork (D.plain task.now.domain.now) task.now.program.now task.now.limit begun.told (W.entries work.old) (steps.old - begun.steps)
+    requires at_work { IsAtWork (D.plain task.now.domain.now) task.now.program.now task.now.limit begun.origin (W.entries work.old) (steps.old - begun.steps)
         (state_of D.value_of (D.plain task.now.domain.now) table.old.rows arcs.old) (is_dirty unmet.old) }
-    requires queued { IsQueued (is_dirty arcs.old) (heap_items queue.old) }
-    ensures at_work { OnOk result (IsAtWork (D.plain task.now.domain.now) task.now.program.now task.now.limit begun.told (W.entries work.new)
+    requires queued { IsQueued (state_of D.value_of (D.plain task.now.domain.now) table.old.rows arcs.old) (heap_items queue.old) }
+    ensures at_work { OnOk result (IsAtWork (D.plain task.now.domain.now) task.now.program.now task.now.limit begun.origin (W.entries work.new)
         (steps.new - begun.steps)
         (state_of D.value_of (D.plain task.now.domain.now) table.new.rows arcs.new) (is_dirty unmet.new)) }
-    ensures queued { OnOk result (IsQueued (is_dirty arcs.new) (heap_items queue.new)) }
+    ensures queued { OnOk result (IsQueued (state_of D.value_of (D.plain task.now.domain.now) table.new.rows arcs.new) (heap_items queue.new)) }
     ensures extends { OnOk result (Extends (as_domain (D.plain task.now.domain.now)) (kept_rows D.value_of (D.plain task.now.domain.now) table.old.rows)
         (kept_rows D.value_of (D.plain task.now.domain.now) table.new.rows)) }
     ensures settles { IfOk result (Settles (as_domain (D.plain task.now.domain.now)) task.now.limit
         (state_of D.value_of (D.plain task.now.domain.now) table.old.rows arcs.old) (state_of D.value_of
         (D.plain task.now.domain.now) table.new.rows arcs.new)) }
-    ensures stops { IfErr result (Stops (D.plain task.now.domain.now) task.now.program.now task.now.limit begun.told (W.entries work.new)
+    ensures stops { IfErr result (Stops (D.plain task.now.domain.now) task.now.program.now task.now.limit begun.origin (W.entries work.new)
         (steps.new - begun.steps)) }
 {
     loop {
@@ -107,17 +107,17 @@ pub(crate) fn settle<D: Domain, W: Work, L: Ledger>(
 ) -> Result<(), SolveFail>
     ghost begun: { Start }
     requires well_formed { IsWellFormed task.now.program.now }
-    requires at_work { IsAtWork (D.plain task.now.domain.now) task.now.program.now task.now.limit begun.told (W.entries work.old) (steps.old - begun.steps)
+    requires at_work { IsAtWork (D.plain task.now.domain.now) task.now.program.now task.now.limit begun.origin (W.entries work.old) (steps.old - begun.steps)
         (state_of D.value_of (D.plain task.now.domain.now) table.old.rows arcs.old) (is_dirty unmet.old) }
-    requires queued { IsQueued (is_dirty arcs.old) (heap_items queue.old) }
-    ensures at_work { OnOk result (IsAtWork (D.plain task.now.domain.now) task.now.program.now task.now.limit begun.told (W.entries work.new)
+    requires queued { IsQueued (state_of D.value_of (D.plain task.now.domain.now) table.old.rows arcs.old) (heap_items queue.old) }
+    ensures at_work { OnOk result (IsAtWork (D.plain task.now.domain.now) task.now.program.now task.now.limit begun.origin (W.entries work.new)
         (steps.new - begun.steps)
         (state_of D.value_of (D.plain task.now.domain.now) table.new.rows arcs.new) (is_dirty unmet.new)) }
-    ensures queued { OnOk result (IsQueued (is_dirty arcs.new) (heap_items queue.new)) }
+    ensures queued { OnOk result (IsQueued (state_of D.value_of (D.plain task.now.domain.now) table.new.rows arcs.new) (heap_items queue.new)) }
     ensures extends { OnOk result (Extends (as_domain (D.plain task.now.domain.now)) (kept_rows D.value_of (D.plain task.now.domain.now) table.old.rows)
         (kept_rows D.value_of (D.plain task.now.domain.now) table.new.rows)) }
-    ensures clean { OnOk result ((r c : ℕ) → is_dirty arcs.new r c ≡ false) }
-    ensures stops { IfErr result (Stops (D.plain task.now.domain.now) task.now.program.now task.now.limit begun.told (W.entries work.new)
+    ensures clean { OnOk result (IsClean (as_domain (D.plain task.now.domain.now)) (state_of D.value_of (D.plain task.now.domain.now) table.new.rows arcs.new)) }
+    ensures stops { IfErr result (Stops (D.plain task.now.domain.now) task.now.program.now task.now.limit begun.origin (W.entries work.new)
         (steps.new - begun.steps)) }
 {
     loop {

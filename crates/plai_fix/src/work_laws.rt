@@ -2,102 +2,107 @@ ghost use Rattle.std.specs.Prelude.{◌≡◌, ◌≢◌, ℕ, suc, ◌≤◌, �
 ghost use Rattle.plai_theory.specs.Words.{IsIn, item};
 ghost use Rattle.plai_theory.specs.Domain.{Program, IsLawful};
 ghost use Rattle.plai_theory.specs.Evaluation.{NameOf, answer_of, calls_of, join_of};
-ghost use Rattle.plai_theory.specs.LegalWork.{WorkRow, LogEntry, Made, Evaluated, Grew, present_source};
-ghost use Rattle.plai_theory.specs.LegalWork.{new_row, after_evaluating, after_growing, live_count, no_work, after_all, IsEnd};
+ghost use Rattle.plai_theory.specs.LegalWork.{WorkRow, Work, LogEntry, Made, Evaluated, Grew, present_source};
+ghost use Rattle.plai_theory.specs.LegalWork.{new_row, after_evaluating, after_growing, live_count, after_all, IsEnd};
 ghost use Rattle.plai_theory.specs.Limits.{IsOverAt};
 ghost use Rattle.plai_theory.specs.Claims.{IsStoppedLog};
 ghost use Rattle.plai_theory.specs.Measure.{IsRank};
-ghost use Rattle.plai_fix.specs.WorkStates.{Keeping, Keeps, IsNamed, kept_source, kept_live};
-ghost use Rattle.plai_fix.specs.Changes.{Clears, SetsCalls, Answers, Makes};
-ghost use Rattle.plai_fix.specs.Logs.{IsWorking};
+ghost use Rattle.plai_fix.specs.WorkStates.{KeptRow, Keeping, Keeps, IsNamed, IsClean, is_live, kept_source, kept_live, no_pair, with_pair};
+ghost use Rattle.plai_fix.specs.Changes.{Clears, SetsCalls, Answers, Makes, Wakes};
+ghost use Rattle.plai_fix.specs.Logs.{IsWorking, IsWaking};
 ghost use Rattle.plai_fix.specs.Pairs.{Links, HasEvaluated, IsWaiting};
 ghost use Rattle.plai_fix.specs.Measures.{kept_room, kept_ranks, kept_dirties};
+ghost use Rattle.plai_fix.specs.Solving.{HasLiveRow};
 
 use plai_theory::AnyDomain;
 
-/// A dirty pair of work from no rows, worked in part by part: it is evaluated, its calls are set, and its growth is done.
+/// A dirty pair of a live row, worked in part by part: it is evaluated, its calls are set, and its growth is done.
 pub fn pair_laws<T: AnyDomain>()
     // A dirty pair is evaluated under what the table keeps.
-    ensures evaluates { (g : Program T.domain) → IsLawful T.domain g → (limit : ℕ) (log : List (LogEntry T.domain)) (k new : Keeping T.domain)
-        → (unmet left : ℕ → ℕ → Bool) → IsWorking T.domain g T.limits limit (no_work T.domain) log k None None unmet → (n i : ℕ) (r : WorkRow T.domain)
-        → item (after_all T.domain g (no_work T.domain) log).rows n ≡ Some r → (c : T.domain.Clause) → item (g.clauses r.name.pred) i ≡ Some c
-        → k.dirty n (suc i) ≡ true → (IsOverAt T.domain T.limits (kept_source T.domain k.rows) c r.name.call → ⊥) → Clears T.domain k new n i
+    ensures evaluates { (g : Program T.domain) → IsLawful T.domain g → (limit : ℕ) (start : Work T.domain) (log : List (LogEntry T.domain)) (k new : Keeping T.domain)
+        → (unmet left : ℕ → ℕ → Bool) → IsWorking T.domain g T.limits limit start log k None None unmet → (n i : ℕ) (r : WorkRow T.domain)
+        → item (after_all T.domain g start log).rows n ≡ Some r → (c : T.domain.Clause) → item (g.clauses r.name.pred) i ≡ Some c
+        → r.live ≡ true → k.dirty n (suc i) ≡ true → (IsOverAt T.domain T.limits (kept_source T.domain k.rows) c r.name.call → ⊥) → Clears T.domain k new n i
         → ((a m : ℕ) → (a ≡ n → m ≡ suc i → ⊥) → left a m ≡ unmet a m) → left n (suc i) ≡ false
         → (answer : Option T.domain.Value) (called : List (NameOf T.domain))
         → answer ≡ answer_of T.domain (kept_source T.domain k.rows) c r.name.call → called ≡ calls_of T.domain (kept_source T.domain k.rows) c r.name.call
-        → HasEvaluated T.domain g T.limits limit (log ++ Evaluated r.name i ∷ []) new (Some (n, i)) left n i called answer }
+        → HasEvaluated T.domain g T.limits limit start (log ++ Evaluated r.name i ∷ []) new (Some (n, i)) left n i called answer }
 
     // Its calls are the rows of the names that it called; the others have none.
-    ensures linked { (g : Program T.domain) → IsLawful T.domain g → (limit : ℕ) (log : List (LogEntry T.domain)) (k new : Keeping T.domain) (unmet : ℕ
+    ensures linked { (g : Program T.domain) → IsLawful T.domain g → (limit : ℕ) (start : Work T.domain) (log : List (LogEntry T.domain)) (k new : Keeping T.domain) (unmet : ℕ
         → ℕ → Bool)
         → (n i : ℕ) (called left : List (NameOf T.domain)) (answer : Option T.domain.Value) (found : ℕ → Bool)
-        → HasEvaluated T.domain g T.limits limit log k (Some (n, i)) unmet n i called answer → SetsCalls T.domain k new n i found
+        → HasEvaluated T.domain g T.limits limit start log k (Some (n, i)) unmet n i called answer → SetsCalls T.domain k new n i found
         → Links T.domain k.rows called found left false → ((y : NameOf T.domain) → IsIn y left → (j : ℕ) → IsNamed T.domain k.rows j y → ⊥)
-        → HasEvaluated T.domain g T.limits limit log new None unmet n i called answer }
+        → HasEvaluated T.domain g T.limits limit start log new None unmet n i called answer }
 
     // Where the join with its answer is the row's answer, no growth is due; else it is done.
     ensures settles { (g : Program T.domain) → IsLawful T.domain g
-        → (limit : ℕ) (log : List (LogEntry T.domain)) (k : Keeping T.domain) (open_pair : Option (ℕ × ℕ))
+        → (limit : ℕ) (start : Work T.domain) (log : List (LogEntry T.domain)) (k : Keeping T.domain) (open_pair : Option (ℕ × ℕ))
         → (unmet : ℕ → ℕ → Bool) (n i : ℕ) (called : List (NameOf T.domain)) (answer : Option T.domain.Value)
-        → (has : HasEvaluated T.domain g T.limits limit log k open_pair unmet n i called answer)
-        → join_of T.domain (present_source T.domain (after_all T.domain g (no_work T.domain) log).rows has.pair.row.name.pred has.pair.row.name.call) answer
-        ≡ present_source T.domain (after_all T.domain g (no_work T.domain) log).rows has.pair.row.name.pred has.pair.row.name.call
-        → IsWaiting T.domain g T.limits limit log k open_pair unmet n i called }
-    ensures grows { (g : Program T.domain) → IsLawful T.domain g → (limit : ℕ) (log : List (LogEntry T.domain)) (k new : Keeping T.domain) (unmet : ℕ → ℕ
+        → (has : HasEvaluated T.domain g T.limits limit start log k open_pair unmet n i called answer)
+        → join_of T.domain (present_source T.domain (after_all T.domain g start log).rows has.pair.row.name.pred has.pair.row.name.call) answer
+        ≡ present_source T.domain (after_all T.domain g start log).rows has.pair.row.name.pred has.pair.row.name.call
+        → IsWaiting T.domain g T.limits limit start log k open_pair unmet n i called }
+    ensures grows { (g : Program T.domain) → IsLawful T.domain g → (limit : ℕ) (start : Work T.domain) (log : List (LogEntry T.domain)) (k new : Keeping T.domain) (unmet : ℕ → ℕ
         → Bool)
         → (n i : ℕ) (called : List (NameOf T.domain)) (answer a : Option T.domain.Value)
-        → (has : HasEvaluated T.domain g T.limits limit log k None unmet n i called answer)
-        → a ≡ join_of T.domain (present_source T.domain (after_all T.domain g (no_work T.domain) log).rows has.pair.row.name.pred has.pair.row.name.call) answer
-        → a ≢ present_source T.domain (after_all T.domain g (no_work T.domain) log).rows has.pair.row.name.pred has.pair.row.name.call
-        → Answers T.domain k new n a → IsWaiting T.domain g T.limits limit (log ++ Grew has.pair.row.name a ∷ []) new None unmet n i called }
+        → (has : HasEvaluated T.domain g T.limits limit start log k None unmet n i called answer)
+        → a ≡ join_of T.domain (present_source T.domain (after_all T.domain g start log).rows has.pair.row.name.pred has.pair.row.name.call) answer
+        → a ≢ present_source T.domain (after_all T.domain g start log).rows has.pair.row.name.pred has.pair.row.name.call
+        → Answers T.domain k new n a → IsWaiting T.domain g T.limits limit start (log ++ Grew has.pair.row.name a ∷ []) new None unmet n i called }
 {}
 
 /// Rows for the names that such a pair called, and for entries, and where the pair is closed, and the work ends or stops.
 pub fn placing_laws<T: AnyDomain>()
     // A called name without a row gets one, while the pair is open, and an entry's name does.
-    ensures reopens { (g : Program T.domain) → IsLawful T.domain g → (limit : ℕ) (log : List (LogEntry T.domain)) (k : Keeping T.domain) (unmet : ℕ → ℕ
+    ensures reopens { (g : Program T.domain) → IsLawful T.domain g → (limit : ℕ) (start : Work T.domain) (log : List (LogEntry T.domain)) (k : Keeping T.domain) (unmet : ℕ → ℕ
         → Bool)
-        → (n i : ℕ) (called : List (NameOf T.domain)) → IsWaiting T.domain g T.limits limit log k None unmet n i called
-        → IsWaiting T.domain g T.limits limit log k (Some (n, i)) unmet n i called }
+        → (n i : ℕ) (called : List (NameOf T.domain)) → IsWaiting T.domain g T.limits limit start log k None unmet n i called
+        → IsWaiting T.domain g T.limits limit start log k (Some (n, i)) unmet n i called }
     ensures makes_called { (g : Program T.domain) → IsLawful T.domain g
-        → (limit : ℕ) (log : List (LogEntry T.domain)) (k new : Keeping T.domain) (unmet : ℕ → ℕ → Bool)
-        → (n i : ℕ) (called : List (NameOf T.domain)) → IsWaiting T.domain g T.limits limit log k (Some (n, i)) unmet n i called → (y : NameOf T.domain)
+        → (limit : ℕ) (start : Work T.domain) (log : List (LogEntry T.domain)) (k new : Keeping T.domain) (unmet : ℕ → ℕ → Bool)
+        → (n i : ℕ) (called : List (NameOf T.domain)) → IsWaiting T.domain g T.limits limit start log k (Some (n, i)) unmet n i called → (y : NameOf T.domain)
         → IsIn y called
         → ((j : ℕ) → IsNamed T.domain k.rows j y → ⊥) → kept_live T.domain k.rows < limit → Makes T.domain g k new y
-        → IsWaiting T.domain g T.limits limit (log ++ Made y ∷ []) new (Some (n, i)) unmet n i called }
+        → IsWaiting T.domain g T.limits limit start (log ++ Made y ∷ []) new (Some (n, i)) unmet n i called }
     ensures makes_entry { (g : Program T.domain) → IsLawful T.domain g
-        → (limit : ℕ) (log : List (LogEntry T.domain)) (k new : Keeping T.domain) (unmet : ℕ → ℕ → Bool)
-        → IsWorking T.domain g T.limits limit (no_work T.domain) log k None None unmet → (y : NameOf T.domain) → IsIn y g.entries
+        → (limit : ℕ) (start : Work T.domain) (log : List (LogEntry T.domain)) (k new : Keeping T.domain) (unmet : ℕ → ℕ → Bool)
+        → IsWorking T.domain g T.limits limit start log k None None unmet → (y : NameOf T.domain) → IsIn y g.entries
         → ((j : ℕ) → IsNamed T.domain k.rows j y → ⊥) → kept_live T.domain k.rows < limit → Makes T.domain g k new y
-        → IsWorking T.domain g T.limits limit (no_work T.domain) (log ++ Made y ∷ []) new None None unmet }
+        → IsWorking T.domain g T.limits limit start (log ++ Made y ∷ []) new None None unmet }
 
-    // Where each called name has a row the pair waits no more; where one has none and the limit is met, it is unmet.
-    ensures ends_met { (g : Program T.domain) → IsLawful T.domain g → (limit : ℕ) (log : List (LogEntry T.domain)) (k : Keeping T.domain) (unmet : ℕ → ℕ
-        → Bool)
-        → (n i : ℕ) (called : List (NameOf T.domain)) (found : ℕ → Bool) → IsWaiting T.domain g T.limits limit log k None unmet n i called
-        → Links T.domain k.rows called found [] false → IsWorking T.domain g T.limits limit (no_work T.domain) log k None None unmet }
+    // Where each called name has a row the pair waits no more, but that the row may be dormant; where one has none and the limit
+    // is met, it is unmet.
+    ensures ends_met { (g : Program T.domain) → IsLawful T.domain g
+        → (limit : ℕ) (start : Work T.domain) (log : List (LogEntry T.domain)) (k : Keeping T.domain) (unmet : ℕ → ℕ → Bool)
+        → (n i : ℕ) (called : List (NameOf T.domain)) (found : ℕ → Bool) → IsWaiting T.domain g T.limits limit start log k None unmet n i called
+        → Links T.domain k.rows called found [] false → IsWaking T.domain g T.limits limit start log k (with_pair n (suc i) no_pair) unmet }
     ensures closes_met { (g : Program T.domain) → IsLawful T.domain g
-        → (limit : ℕ) (log : List (LogEntry T.domain)) (k new : Keeping T.domain) (unmet : ℕ → ℕ → Bool)
-        → (n i : ℕ) (called : List (NameOf T.domain)) (found : ℕ → Bool) → IsWaiting T.domain g T.limits limit log k (Some (n, i)) unmet n i called
+        → (limit : ℕ) (start : Work T.domain) (log : List (LogEntry T.domain)) (k new : Keeping T.domain) (unmet : ℕ → ℕ → Bool)
+        → (n i : ℕ) (called : List (NameOf T.domain)) (found : ℕ → Bool) → IsWaiting T.domain g T.limits limit start log k (Some (n, i)) unmet n i called
         → SetsCalls T.domain k new n i found → Links T.domain k.rows called found [] false
-        → IsWorking T.domain g T.limits limit (no_work T.domain) log new None None unmet }
-    ensures closes_unmet { (g : Program T.domain) → IsLawful T.domain g → (limit : ℕ) (log : List (LogEntry T.domain)) (k new : Keeping T.domain)
+        → IsWaking T.domain g T.limits limit start log new (with_pair n (suc i) no_pair) unmet }
+    ensures closes_unmet { (g : Program T.domain) → IsLawful T.domain g
+        → (limit : ℕ) (start : Work T.domain) (log : List (LogEntry T.domain)) (k new : Keeping T.domain)
         → (unmet marked : ℕ → ℕ → Bool) (n i : ℕ) (called : List (NameOf T.domain)) (found : ℕ → Bool)
-        → IsWaiting T.domain g T.limits limit log k (Some (n, i)) unmet n i called → SetsCalls T.domain k new n i found
+        → IsWaiting T.domain g T.limits limit start log k (Some (n, i)) unmet n i called → SetsCalls T.domain k new n i found
         → Links T.domain k.rows called found [] true
         → limit ≤ kept_live T.domain k.rows → ((a m : ℕ) → marked a m ≡ ((nat_eq a n && nat_eq m (suc i)) || unmet a m))
-        → IsWorking T.domain g T.limits limit (no_work T.domain) log new None None marked }
+        → IsWaking T.domain g T.limits limit start log new (with_pair n (suc i) no_pair) marked }
 
-    // Where no pair is dirty: the log ends where none is unmet and each entry has a row, and stops at an entry without one.
-    ensures ends { (g : Program T.domain) → IsLawful T.domain g → (limit : ℕ) (log : List (LogEntry T.domain)) (k : Keeping T.domain) (unmet : ℕ → ℕ → Bool)
-        → IsWorking T.domain g T.limits limit (no_work T.domain) log k None None unmet → ((n m : ℕ) → k.dirty n m ≡ false) → ((n m : ℕ) → unmet n m ≡ false)
-        → ((x : NameOf T.domain) → IsIn x g.entries → (j : ℕ) × IsNamed T.domain k.rows j x)
-        → IsEnd T.domain g (after_all T.domain g (no_work T.domain) log) }
-    ensures stops { (g : Program T.domain) → IsLawful T.domain g → (limit : ℕ) (log : List (LogEntry T.domain)) (k : Keeping T.domain) (unmet : ℕ → ℕ → Bool)
-        → IsWorking T.domain g T.limits limit (no_work T.domain) log k None None unmet → ((n m : ℕ) → k.dirty n m ≡ false) → (x : NameOf T.domain)
-        → IsIn x g.entries
-        → ((j : ℕ) → IsNamed T.domain k.rows j x → ⊥) → limit ≤ kept_live T.domain k.rows
-        → IsStoppedLog T.domain g limit (no_work T.domain) log x × (live_count T.domain (after_all T.domain g (no_work T.domain) log).rows ≡ limit) }
+    // Where no pair of a live row is dirty: the log ends where none is unmet and each entry has a live row, and stops at an entry
+    // without one.
+    ensures ends { (g : Program T.domain) → IsLawful T.domain g
+        → (limit : ℕ) (start : Work T.domain) (log : List (LogEntry T.domain)) (k : Keeping T.domain) (unmet : ℕ → ℕ → Bool)
+        → IsWorking T.domain g T.limits limit start log k None None unmet → IsClean T.domain k → ((n m : ℕ) → unmet n m ≡ false)
+        → ((x : NameOf T.domain) → IsIn x g.entries → HasLiveRow T.domain k.rows x)
+        → IsEnd T.domain g (after_all T.domain g start log) }
+    ensures stops { (g : Program T.domain) → IsLawful T.domain g
+        → (limit : ℕ) (start : Work T.domain) (log : List (LogEntry T.domain)) (k : Keeping T.domain) (unmet : ℕ → ℕ → Bool)
+        → IsWorking T.domain g T.limits limit start log k None None unmet → IsClean T.domain k → (x : NameOf T.domain)
+        → IsIn x g.entries → (HasLiveRow T.domain k.rows x → ⊥) → limit ≤ kept_live T.domain k.rows
+        → IsStoppedLog T.domain g limit start log x × (live_count T.domain (after_all T.domain g start log).rows ≡ limit) }
 {}
 
 /// Three numbers of what a table and its arcs keep, which show that work ends: each step lowers one of them and leaves those
@@ -108,6 +113,11 @@ pub fn fall_laws<T: AnyDomain>()
         → (k new : Keeping T.domain) (open_pair next : Option (ℕ × ℕ)) (rows : List (WorkRow T.domain))
         → Keeps T.domain g k open_pair rows → (limit : ℕ) (x : NameOf T.domain) → Keeps T.domain g new next (rows ++ new_row T.domain x ∷ [])
         → kept_live T.domain k.rows < limit → kept_room T.domain limit new.rows < kept_room T.domain limit k.rows }
+
+    // A woken row lowers it too.
+    ensures woken { (g : Program T.domain) (limit : ℕ) (k new : Keeping T.domain) (n : ℕ) (kept : KeptRow T.domain) → item k.rows n ≡ Some kept
+        → is_live T.domain k.rows n ≡ false → kept_live T.domain k.rows < limit → Wakes T.domain k new n
+        → kept_room T.domain limit new.rows < kept_room T.domain limit k.rows }
 
     // An evaluation lowers the dirty clauses; calls that are set leave them.
     ensures evaluated { (g : Program T.domain) → IsLawful T.domain g

@@ -25,9 +25,6 @@ module _ (v : ℕ) (fs : List (List Node)) (f : List Node) (longer : List (List 
       ∙ sym (filter-kept (2 ^ v) (λ y. holds f (has_slot y)) (λ y. together fs (has_slot y)))
 
 -- one function
-pub at_alone : (f : List Node) (fs : List (List Node)) → fs ≡ f ∷ [] → (at : Assignment) → together fs at ≡ holds f at
-at_alone f fs alone at = ap (λ gs. together gs at) alone ∙ and-true (holds f at)
-
 module _ (v : ℕ) (f : List Node) (fs : List (List Node)) (alone : (at : Assignment) → together fs at ≡ holds f at) where
   pub positive_alone : IsPositiveBelow v (holds f) → IsPositiveBelow v (together fs)
   positive_alone p = record {

@@ -44,32 +44,6 @@ range_projects mask first f room range at = (
     up there d slot (inl l) = inr (omega arith, (range slot).1 (omega arith, l))
     up there d slot (inr l) = inl (d slot l)
 
--- at some assignment that differs from this one between the two slots alone
-abbrev pub Between : ℕ → ℕ → (Assignment → Type 0) → Assignment → Type 0
-Between first end P at = (other : Assignment) × (((slot : ℕ) → (slot < first) ⊎ (end ≤ slot) → other slot ≡ at slot) × P other)
-
-pub range_between : (mask first end : ℕ) (f : Assignment → Bool) → end ≤ 64 → IsRange mask first end → (at : Assignment)
-    → Somewhere mask f at ↔ Between first end (λ other. IsTrue (f other)) at
-range_between mask first end f room range at = (
-  λ (there, (d, t)). (there, ((λ slot out. down there slot out (d slot)), t)),
-  λ (there, (d, t)). (there, ((λ slot. up there d slot (where_is slot first end)), t)),
-)
-  where
-    down : (there : Assignment) (slot : ℕ) → (slot < first) ⊎ (end ≤ slot) → (there slot ≡ at slot) ⊎ ((slot < 64) × IsTrue (has_slot mask slot))
-        → there slot ≡ at slot
-    down there slot out (inl e) = e
-    down there slot (inl l) (inr p) = absurd (omega (arith, ((range slot).0 p.1).0, l))
-    down there slot (inr l) (inr p) = absurd (omega (arith, ((range slot).0 p.1).1, l))
-
-    where_is : (slot first end : ℕ) → ((first ≤ slot) × (slot < end)) ⊎ ((slot < first) ⊎ (end ≤ slot))
-    where_is slot first end = grind arith
-
-    up : (there : Assignment) → ((slot : ℕ) → (slot < first) ⊎ (end ≤ slot) → there slot ≡ at slot) → (slot : ℕ)
-        → ((first ≤ slot) × (slot < end)) ⊎ ((slot < first) ⊎ (end ≤ slot))
-        → (there slot ≡ at slot) ⊎ ((slot < 64) × IsTrue (has_slot mask slot))
-    up there d slot (inl within) = inr (omega (arith, within.1), (range slot).1 within)
-    up there d slot (inr out) = inl (d slot out)
-
 -- true of the variables, where the terms' slots are unified
 abbrev pub JoinedAt : ℕ → List ℕ → (Assignment → Bool) → Assignment → Type 0
 JoinedAt v sets given at = IsTrue (given at) × AreUnified v sets at

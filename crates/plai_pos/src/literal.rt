@@ -56,10 +56,7 @@ fn preimage(alloc: Global, function: &Bdd, sets: &[Mask], end: u32) -> Result<Bd
     requires function { IsDiagram (length sets.now) function.now }
     ensures { IfOk result (λ b. IsDiagramOf end (preimage end sets.now (models_of (length sets.now) function.now)) b) }
 {
-    let raised = function.shift_up(alloc, end)?;
-    let raised = vec![in alloc; Factor::new(alloc, raised)?]?;
-    let unified = with_terms(alloc, raised, sets, end)?;
-    and_exists(alloc, unified, slots_from(end, end + sets.len() as u32))
+    function.replaced(alloc, sets)
 }
 
 /// What is known of a clause's arguments and variables as it begins: the call, and each argument unified with the head's.

@@ -1,10 +1,13 @@
--- Where a program was worked on from no rows until its log ended, and what calls reach is kept, table and arcs are whole.
+-- Where a program was worked on until its log ended, and what calls reach is kept, table and arcs are whole.
 use Rattle.std.proofs.Common.{◌≡◌, ◌↔◌, ℕ, zero, suc, true, List, [], ◌∷◌, map, slice_get, Option, Some, None, sym, refl, ap, ◌∙◌, subst}
 use Rattle.plai_theory.specs.Words.{IsIn, given, item}
 use Rattle.plai_theory.specs.Domain.{Name}
-use Rattle.plai_theory.specs.LeastTable.{Row}
-use Rattle.plai_theory.specs.LegalWork.{Work, LogEntry, no_work, after_all, IsLogResult}
+use Rattle.plai_theory.specs.LeastTable.{Row, IsLeastTable}
+use Rattle.plai_theory.specs.LegalWork.{Work, LogEntry, after_all, IsLogResult}
+use Rattle.plai_theory.specs.Edits.{IsOpening}
 use Rattle.plai_theory.proofs.Logs.{log_keeps, empty}
+use Rattle.plai_theory.proofs.Invariant.{Inv}
+use Rattle.plai_theory.proofs.Edits.{opened_inv}
 use Rattle.plai_terms.specs.declared.abs.Abs.{Abs}
 use Rattle.plai_terms.specs.declared.pred_key.PredKey.{PredKey}
 use Rattle.plai_domain.specs.Plain.{PlainDomain}
@@ -19,6 +22,7 @@ use Rattle.plai_table.specs.Rows.{TableRow, with_live}
 use Rattle.plai_arcs.specs.declared.arcs.Arcs.{Arcs}
 use Rattle.plai_fix.specs.WorkStates.{KeptRow, IsNamed}
 use Rattle.plai_fix.specs.Tables.{kept_row, kept_rows, state_of}
+use Rattle.plai_fix.specs.Told.{PlainRow, work_over}
 use Rattle.plai_fix.specs.Stops.{IsSolvedBy, AreMarked}
 use Rattle.plai_repair.specs.Opened.{IsWholeTable}
 use Rattle.plai_repair.specs.Reached.{entry_at, KeepsReached}
@@ -44,7 +48,7 @@ module _ {V : Type 0} (value_of : V → Abs) (p : PlainDomain) where
   had_awake ts None = refl
   had_awake ts (Some b) = awake_get ts b
 
-  cut_to : (ts now : List (TableRow V)) (arcs new_arcs : Arcs) → KeepsReached ts arcs now new_arcs
+  pub cut_to : (ts now : List (TableRow V)) (arcs new_arcs : Arcs) → KeepsReached ts arcs now new_arcs
       → IsCutTo (as_domain p) (state_of value_of p ts arcs) (entry_at ts) (state_of value_of p now new_arcs)
   cut_to ts now arcs new_arcs c = record {
     had = c.had;
@@ -69,27 +73,54 @@ module _ {V : Type 0} (value_of : V → Abs) (p : PlainDomain) where
   marked_at names (t ∷ ts) h (suc n) x named = marked_at names ts (λ m r e. h (suc m) r e) n x named
 
   module _ (laws : IsLawful p) (program : ProgramView) (good : IsWellFormed program) where
-    -- Theorem: where work has ended.
-    pub whole_table : (ts now : List (TableRow V)) (arcs new_arcs : Arcs) (w : Work (as_domain p)) (rows : List (Row (as_domain p)))
-        → HasEnded (as_domain p) (as_program p program) (before p) (state_of value_of p ts arcs) (entry_at ts) w rows → KeepsReached ts arcs now new_arcs
+    -- work that began with rows that meet the invariant has ended
+    pub ended : (start : Work (as_domain p)) → Inv (as_domain p) (as_program p program) start.rows start.last
+        → (limit : ℕ) (ts : List (TableRow V)) (arcs : Arcs) (log : List (LogEntry (as_domain p)))
+        → IsSolvedBy p program limit start (state_of value_of p ts arcs) log → AreMarked value_of p program ts
+        → HasEnded (as_domain p) (as_program p program) (state_of value_of p ts arcs) (entry_at ts) (after_all (as_domain p) (as_program p program) start log)
+    ended start inv limit ts arcs log solved marked = record {
+      inv = log_keeps (as_domain p) (as_program p program) (lawful_at p laws program good) limit start log inv solved.whole.legal;
+      end = solved.whole.end;
+      keeps = solved.keeps;
+      entries = marked_at (as_program p program).entries ts marked;
+    }
+
+    -- Theorem: then what calls reach is whole.
+    pub whole_solved : (start : Work (as_domain p)) → Inv (as_domain p) (as_program p program) start.rows start.last
+        → (limit : ℕ) (ts now : List (TableRow V)) (arcs new_arcs : Arcs) (log : List (LogEntry (as_domain p)))
+        → IsSolvedBy p program limit start (state_of value_of p ts arcs) log → AreMarked value_of p program ts → KeepsReached ts arcs now new_arcs
+        → (rows : List (Row (as_domain p)))
+        → IsLogResult (as_domain p) (as_program p program) (before p) (after_all (as_domain p) (as_program p program) start log) rows
         → IsWholeTable value_of p program rows now new_arcs
-    whole_table ts now arcs new_arcs w rows s c =
-        is_whole (as_domain p) (as_program p program) (lawful_at p laws program good) (before p) (state_of value_of p ts arcs) (entry_at ts) w rows s (strict p)
+    whole_solved start inv limit ts now arcs new_arcs log solved marked c rows result =
+        is_whole (as_domain p) (as_program p program) (lawful_at p laws program good) (state_of value_of p ts arcs) (entry_at ts)
+        (after_all (as_domain p) (as_program p program) start log) (ended start inv limit ts arcs log solved marked) (before p) (strict p) rows result
         (state_of value_of p now new_arcs) (cut_to ts now arcs new_arcs c)
 
     -- Theorem: where it began with no rows.
-    pub whole_solved : (limit : ℕ) (ts now : List (TableRow V)) (arcs new_arcs : Arcs) (log : List (LogEntry (as_domain p)))
-        → IsSolvedBy p program limit (state_of value_of p ts arcs) log → AreMarked value_of p program ts → KeepsReached ts arcs now new_arcs
+    pub solved_anew : (limit : ℕ) (ts now : List (TableRow V)) (arcs new_arcs : Arcs) (log : List (LogEntry (as_domain p)))
+        → IsSolvedBy p program limit (work_over p []) (state_of value_of p ts arcs) log → AreMarked value_of p program ts → KeepsReached ts arcs now new_arcs
         → (rows : List (Row (as_domain p)))
-        → IsLogResult (as_domain p) (as_program p program) (before p) (after_all (as_domain p) (as_program p program) (no_work (as_domain p)) log) rows
+        → IsLogResult (as_domain p) (as_program p program) (before p) (after_all (as_domain p) (as_program p program) (work_over p []) log) rows
         → IsWholeTable value_of p program rows now new_arcs
-    whole_solved limit ts now arcs new_arcs log solved marked c rows result =
-        whole_table ts now arcs new_arcs (after_all (as_domain p) (as_program p program) (no_work (as_domain p)) log) rows
-        (record {
-          inv = log_keeps (as_domain p) (as_program p program) (lawful_at p laws program good) limit (no_work (as_domain p)) log
-              (empty (as_domain p) (as_program p program) (lawful_at p laws program good)) solved.whole.legal;
-          end = solved.whole.end;
-          keeps = solved.keeps;
-          entries = marked_at (as_program p program).entries ts marked;
-          result = result;
-        }) c
+    solved_anew = whole_solved (work_over p []) (empty (as_domain p) (as_program p program) (lawful_at p laws program good))
+
+    -- the rows that an edit keeps meet the invariant
+    pub again_inv : (was : ProgramView) → IsWellFormed was → (table : List (Row (as_domain p)))
+        → IsLeastTable (as_domain p) (as_program p was) (before p) table → (opened : List PlainRow)
+        → IsOpening (as_domain p) (as_program p was) (as_program p program) table (work_over p opened).rows
+        → Inv (as_domain p) (as_program p program) (work_over p opened).rows None
+    again_inv was good' table least opened opening =
+        opened_inv (as_domain p) (as_program p was) (as_program p program) (lawful_at p laws was good') (lawful_at p laws program good) (before p) (strict p)
+        table least.0 least.1 (work_over p opened).rows opening
+
+    -- Theorem: where it began with the rows that an edit keeps.
+    pub solved_again : (was : ProgramView) → IsWellFormed was → (table : List (Row (as_domain p)))
+        → IsLeastTable (as_domain p) (as_program p was) (before p) table → (opened : List PlainRow)
+        → IsOpening (as_domain p) (as_program p was) (as_program p program) table (work_over p opened).rows
+        → (limit : ℕ) (ts now : List (TableRow V)) (arcs new_arcs : Arcs) (log : List (LogEntry (as_domain p)))
+        → IsSolvedBy p program limit (work_over p opened) (state_of value_of p ts arcs) log → AreMarked value_of p program ts
+        → KeepsReached ts arcs now new_arcs → (rows : List (Row (as_domain p)))
+        → IsLogResult (as_domain p) (as_program p program) (before p) (after_all (as_domain p) (as_program p program) (work_over p opened) log) rows
+        → IsWholeTable value_of p program rows now new_arcs
+    solved_again was good' table least opened opening = whole_solved (work_over p opened) (again_inv was good' table least opened opening)

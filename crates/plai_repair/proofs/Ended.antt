@@ -14,12 +14,12 @@ use Rattle.plai_theory.proofs.Eval.{same_called}
 use Rattle.plai_theory.proofs.Invariant.{Inv}
 use Rattle.plai_theory.proofs.Logs.{done, need_met, outcome_least}
 use Rattle.plai_arcs.specs.Moves.{of_row}
-use Rattle.plai_fix.specs.WorkStates.{KeptRow, Keeping, Keeps, KeepsRow, AtBoth, clause_at, IsNamed}
+use Rattle.plai_fix.specs.WorkStates.{KeptRow, Keeping, Keeps, KeepsRow, clause_at, IsNamed}
 use Rattle.plai_fix.proofs.Places.{have, there, has_some, in_both, place_of, found_at, one_place}
 use Rattle.plai_repair.specs.Reached.{IsReached}
 use Rattle.plai_repair.specs.Reached as reached
 use Rattle.plai_repair.specs.Whole.{IsWhole}
-use Rattle.plai_repair.proofs.Leads.{row_of_name, name_of_row}
+use Rattle.plai_repair.proofs.Leads.{in_first, numbered, row_of_name, name_of_row}
 use Rattle.plai_repair.proofs.Opens.{rows_of}
 
 -- the row, live
@@ -37,27 +37,14 @@ pub record IsCutTo (d : Domain) (k : Keeping d) (entry : ℕ → Bool) (cut : Ke
   pub whole : (b : ℕ) → IsReached entry k.calls b → (n : ℕ) × (had n ≡ Some b)
   pub once : (m n b : ℕ) → had m ≡ Some b → had n ≡ Some b → m ≡ n
 
--- Work that has ended, which a table and its arcs keep, with the entries' rows marked, and its result.
-pub record HasEnded (d : Domain) (g : Program d) (order : Order d) (k : Keeping d) (entry : ℕ → Bool) (w : Work d) (rows : List (Row d)) : Type 0 where
+-- Work that has ended, which a table and its arcs keep, with the entries' rows marked.
+pub record HasEnded (d : Domain) (g : Program d) (k : Keeping d) (entry : ℕ → Bool) (w : Work d) : Type 0 where
   pub inv : Inv d g w.rows w.last
   pub end : IsEnd d g w
   pub keeps : Keeps d g k None w.rows
   pub entries : (n : ℕ) (x : NameOf d) → IsNamed d k.rows n x → (entry n ≡ true) ↔ IsIn x g.entries
-  pub result : IsLogResult d g order w rows
 
-in_first : {A B : Type 0} (R : A → B → Type 0) (o : Option A) (u : Option B) (x : A) → o ≡ Some x → AtBoth R o u → (y : B) × (u ≡ Some y) × R x y
-in_first R None u x e h = cc
-in_first R (Some z) None x e h = absurd h
-in_first R (Some z) (Some y) x e h = let same : z ≡ x = cc in (y, refl, subst (λ a. R a y) same h)
-
--- the clause of a number from 1
-numbered : (d : Domain) (g : Program d) (p : d.Pred) (m : ℕ) → IsSome (clause_at d g p m)
-    → (i : ℕ) × (c : d.Clause) × (m ≡ suc i) × (item (g.clauses p) i ≡ Some c)
-numbered d g p zero h = cc
-numbered d g p (suc i) h = let (c, e) = have (item (g.clauses p) i) h in (i, c, refl, e)
-
-module _ (d : Domain) (g : Program d) (laws : IsLawful d g) (order : Order d) (k : Keeping d) (entry : ℕ → Bool) (w : Work d) (rows : List (Row d))
-    (s : HasEnded d g order k entry w rows) where
+module _ (d : Domain) (g : Program d) (laws : IsLawful d g) (k : Keeping d) (entry : ℕ → Bool) (w : Work d) (s : HasEnded d g k entry w) where
   -- a row of the table with the row under work that it keeps
   record IsPair (n : ℕ) (x : NameOf d) : Type 0 where
     kept : KeptRow d
@@ -150,9 +137,54 @@ module _ (d : Domain) (g : Program d) (laws : IsLawful d g) (order : Order d) (k
       let names : IsIn x (a.row.calls rec.number) = subst (λ (z : WorkRow d). IsIn x (z.calls rec.number)) one rec.names in
       (n, reached.Then b (suc rec.number) is_reached ((call_is b m a h rec.number rec.clause rec.is_clause n x named).1 names), named)
 
-  module _ (strict : IsStrictOrder d order) where
+  module _ (cut : Keeping d) (c : IsCutTo d k entry cut) where
+    -- the row that it was
+    record IsFrom (n : ℕ) (x : NameOf d) : Type 0 where
+      number : ℕ
+      had : c.had n ≡ Some number
+      named : IsNamed d k.rows number x
+      need : IsNeeded d g w.rows x
+
+    stays : (n b : ℕ) (r : KeptRow d) → c.had n ≡ Some b → item k.rows b ≡ Some r → item cut.rows n ≡ Some (awake d r)
+    stays n b r h e =
+        c.items n ∙ ap (given None (λ b. given None (λ r. Some (awake d r)) (item k.rows b))) h ∙ ap (given None (λ r. Some (awake d r))) e
+
+    was_row : (n : ℕ) (r : KeptRow d) → item cut.rows n ≡ Some r → (b : ℕ) × (c.had n ≡ Some b) × (q : KeptRow d) × (item k.rows b ≡ Some q) × (awake d q ≡ r)
+    was_row n r e = with_number (c.had n) refl (sym (c.items n) ∙ e)
+      where
+        Was : Type 0
+        Was = (b : ℕ) × (c.had n ≡ Some b) × (q : KeptRow d) × (item k.rows b ≡ Some q) × (awake d q ≡ r)
+
+        with_row : (b : ℕ) → c.had n ≡ Some b → (o : Option (KeptRow d)) → item k.rows b ≡ o → given None (λ r. Some (awake d r)) o ≡ Some r → Was
+        with_row b h None f t = cc
+        with_row b h (Some q) f t = let same : awake d q ≡ r = cc in (b, h, q, f, same)
+
+        with_number : (o : Option ℕ) → c.had n ≡ o → given None (λ b. given None (λ r. Some (awake d r)) (item k.rows b)) o ≡ Some r → Was
+        with_number None h t = cc
+        with_number (Some b) h t = with_row b h (item k.rows b) refl t
+
+    from : (n : ℕ) (x : NameOf d) → IsNamed d cut.rows n x → IsFrom n x
+    from n x here =
+        let (r, e, same) = row_of_name d cut.rows n x here in
+        let (b, h, q, f, is) = was_row n r e in
+        let name : q.name ≡ x = ap (λ (z : KeptRow d). z.name) is ∙ same in
+        let named : IsNamed d k.rows b x = has_some (λ (z : KeptRow d). z.name ≡ x) (item k.rows b) q f name in
+        record { number = b; had = h; named = named; need = reached_needed b (c.sound n b h) x named }
+
+    -- its rows are the needed ones
+    pub cut_needed : (n : ℕ) (x : NameOf d) → IsNamed d cut.rows n x → IsNeeded d g w.rows x
+    cut_needed n x named = (from n x named).need
+
+    pub needed_cut : (x : NameOf d) → IsNeeded d g w.rows x → (n : ℕ) × IsNamed d cut.rows n x
+    needed_cut x need =
+        let (b, is_reached, named) = needed_reached x need in
+        let (n, h) = c.whole b is_reached in
+        let (q, e, name) = row_of_name d k.rows b x named in
+        (n, has_some (λ (z : KeptRow d). z.name ≡ x) (item cut.rows n) (awake d q) (stays n b q h e) name)
+
+  module _ (order : Order d) (strict : IsStrictOrder d order) (rows : List (Row d)) (result : IsLogResult d g order w rows) where
     pub least : IsLeastTable d g order rows
-    least = outcome_least d g laws w s.inv s.end order rows s.result
+    least = outcome_least d g laws w s.inv s.end order rows result
 
     own_names : IsDistinct d rows
     own_names = let (from, snaps) = least in distinct d g laws order strict rows from snaps
@@ -160,9 +192,9 @@ module _ (d : Domain) (g : Program d) (laws : IsLawful d g) (order : Order d) (k
     -- the table has the answers of the work
     same_source : (x : NameOf d) → IsNeeded d g w.rows x → source_of d rows x.pred x.call ≡ present_source d w.rows x.pred x.call
     same_source x need =
-        let (r, i, same) = s.result.whole x need in
+        let (r, i, same) = result.whole x need in
         lookup_name d g laws rows own_names x r i same
-        ∙ subst (λ (y : NameOf d). r.answer ≡ present_source d w.rows y.pred y.call) same (s.result.sound r i).1
+        ∙ subst (λ (y : NameOf d). r.answer ≡ present_source d w.rows y.pred y.call) same (result.sound r i).1
 
     -- the calls of a row are those of its clauses' evaluation under the table
     same_calls : (n : ℕ) (x : NameOf d) (a : IsPair n x) → IsNeeded d g w.rows x → (i : ℕ) (c : d.Clause) → item (g.clauses x.pred) i ≡ Some c
@@ -176,63 +208,25 @@ module _ (d : Domain) (g : Program d) (laws : IsLawful d g) (order : Order d) (k
         (subst (λ (names : List (NameOf d)). IsIn (name_of d p v) names) (sym is) t)))))
 
     module _ (cut : Keeping d) (c : IsCutTo d k entry cut) where
-      -- the row that it was
-      record IsFrom (n : ℕ) (x : NameOf d) : Type 0 where
-        number : ℕ
-        had : c.had n ≡ Some number
-        named : IsNamed d k.rows number x
-        need : IsNeeded d g w.rows x
-
-      stays : (n b : ℕ) (r : KeptRow d) → c.had n ≡ Some b → item k.rows b ≡ Some r → item cut.rows n ≡ Some (awake d r)
-      stays n b r h e =
-          c.items n ∙ ap (given None (λ b. given None (λ r. Some (awake d r)) (item k.rows b))) h ∙ ap (given None (λ r. Some (awake d r))) e
-
-      was_row : (n : ℕ) (r : KeptRow d) → item cut.rows n ≡ Some r → (b : ℕ) × (c.had n ≡ Some b) × (q : KeptRow d) × (item k.rows b ≡ Some q) × (awake d q ≡ r)
-      was_row n r e = with_number (c.had n) refl (sym (c.items n) ∙ e)
-        where
-          Was : Type 0
-          Was = (b : ℕ) × (c.had n ≡ Some b) × (q : KeptRow d) × (item k.rows b ≡ Some q) × (awake d q ≡ r)
-
-          with_row : (b : ℕ) → c.had n ≡ Some b → (o : Option (KeptRow d)) → item k.rows b ≡ o → given None (λ r. Some (awake d r)) o ≡ Some r → Was
-          with_row b h None f t = cc
-          with_row b h (Some q) f t = let same : awake d q ≡ r = cc in (b, h, q, f, same)
-
-          with_number : (o : Option ℕ) → c.had n ≡ o → given None (λ b. given None (λ r. Some (awake d r)) (item k.rows b)) o ≡ Some r → Was
-          with_number None h t = cc
-          with_number (Some b) h t = with_row b h (item k.rows b) refl t
-
-      from : (n : ℕ) (x : NameOf d) → IsNamed d cut.rows n x → IsFrom n x
-      from n x here =
-          let (r, e, same) = row_of_name d cut.rows n x here in
-          let (b, h, q, f, is) = was_row n r e in
-          let name : q.name ≡ x = ap (λ (z : KeptRow d). z.name) is ∙ same in
-          let named : IsNamed d k.rows b x = has_some (λ (z : KeptRow d). z.name ≡ x) (item k.rows b) q f name in
-          record { number = b; had = h; named = named; need = reached_needed b (c.sound n b h) x named }
-
       sound : (n : ℕ) (r : KeptRow d) → item cut.rows n ≡ Some r → HasName d rows r.name × (r.answer ≡ source_of d rows r.name.pred r.name.call)
       sound n r e =
-          let f = from n r.name (name_of_row d cut.rows n r e) in
+          let f = from cut c n r.name (name_of_row d cut.rows n r e) in
           let a = pair f.number r.name f.named in
-          let (b, h, q, at, is) = was_row n r e in
+          let (b, h, q, at, is) = was_row cut c n r e in
           let one : b ≡ f.number = (let o : Some b ≡ Some f.number = sym h ∙ f.had in cc) in
           let two : q ≡ a.kept = (let o : Some q ≡ Some a.kept = sym at ∙ (ap (item k.rows) one ∙ a.at) in cc) in
           let answer : r.answer ≡ a.row.answer = sym (ap (λ (z : KeptRow d). z.answer) is) ∙ ap (λ (z : KeptRow d). z.answer) two ∙ a.keeps.answer in
           let present : present_source d w.rows r.name.pred r.name.call ≡ a.row.answer = ap (given None (λ (z : WorkRow d). z.answer))
           (pair_found f.number r.name a) in
-          (s.result.whole r.name f.need, answer ∙ sym present ∙ sym (same_source r.name f.need))
+          (result.whole r.name f.need, answer ∙ sym present ∙ sym (same_source r.name f.need))
 
       whole : (x : NameOf d) → HasName d rows x → (n : ℕ) × IsNamed d cut.rows n x
-      whole x (r, i, same) =
-          let need : IsNeeded d g w.rows x = subst (λ (y : NameOf d). IsNeeded d g w.rows y) same (s.result.sound r i).0 in
-          let (b, is_reached, named) = needed_reached x need in
-          let (n, h) = c.whole b is_reached in
-          let (q, e, name) = row_of_name d k.rows b x named in
-          (n, has_some (λ (z : KeptRow d). z.name ≡ x) (item cut.rows n) (awake d q) (stays n b q h e) name)
+      whole x (r, i, same) = needed_cut cut c x (subst (λ (y : NameOf d). IsNeeded d g w.rows y) same (result.sound r i).0)
 
       once : (m n : ℕ) (x : NameOf d) → IsNamed d cut.rows m x → IsNamed d cut.rows n x → m ≡ n
       once m n x a b =
-          let p = from m x a in
-          let q = from n x b in
+          let p = from cut c m x a in
+          let q = from cut c n x b in
           let one = named_once p.number q.number x p.named q.named in c.once m n q.number (p.had ∙ ap Some one) q.had
 
       clean : (n m : ℕ) → cut.dirty n m ≡ false
@@ -257,8 +251,8 @@ module _ (d : Domain) (g : Program d) (laws : IsLawful d g) (order : Order d) (k
           → (cut.calls n m j ≡ true) ↔ IsIn y (calls_of d (source_of d rows) cl x.call)
       calls n zero j x y cl here e there' = cc
       calls n (suc i) j x y cl here e there' =
-          let p = from n x here in
-          let q = from j y there' in
+          let p = from cut c n x here in
+          let q = from cut c j y there' in
           let a = pair p.number x p.named in
           let is : cut.calls n (suc i) j ≡ k.calls p.number (suc i) q.number =
           c.calls n (suc i) j ∙ ap (λ o. of_row o (λ a. of_row (c.had j) (λ b. k.calls a (suc i) b))) p.had
@@ -274,12 +268,13 @@ module _ (d : Domain) (g : Program d) (laws : IsLawful d g) (order : Order d) (k
           let (a, b, f, h, u) = rows_of (c.had n) (c.had j) (λ a b. k.calls a m b) (sym (c.calls n m j) ∙ t) in
           let (q, e) = have (item k.rows a) (s.keeps.calls_rows a m b u).0 in
           let p = pair a q.name (name_of_row d k.rows a q e) in
-          has_some (λ (r : KeptRow d). IsSome (clause_at d g r.name.pred m)) (item cut.rows n) (awake d q) (stays n a q f e) (caller_clause a q.name p m b u)
+          has_some (λ (r : KeptRow d). IsSome (clause_at d g r.name.pred m)) (item cut.rows n) (awake d q) (stays cut c n a q f e)
+          (caller_clause a q.name p m b u)
 
       called : (n m j : ℕ) → cut.calls n m j ≡ true → IsSome (item cut.rows j)
       called n m j t =
           let (a, b, f, h, u) = rows_of (c.had n) (c.had j) (λ a b. k.calls a m b) (sym (c.calls n m j) ∙ t) in
-          let (q, e) = have (item k.rows b) (s.keeps.calls_rows a m b u).1 in there (item cut.rows j) (awake d q) (stays j b q h e)
+          let (q, e) = have (item k.rows b) (s.keeps.calls_rows a m b u).1 in there (item cut.rows j) (awake d q) (stays cut c j b q h e)
 
       -- Theorem: it is whole.
       pub is_whole : IsWhole d g order rows cut
@@ -288,7 +283,7 @@ module _ (d : Domain) (g : Program d) (laws : IsLawful d g) (order : Order d) (k
         sound = sound;
         whole = whole;
         once = once;
-        live = λ n r e. let (b, h, q, f, is) = was_row n r e in sym (ap (λ (z : KeptRow d). z.live) is);
+        live = λ n r e. let (b, h, q, f, is) = was_row cut c n r e in sym (ap (λ (z : KeptRow d). z.live) is);
         clean = clean;
         calls = calls;
         callers = callers;

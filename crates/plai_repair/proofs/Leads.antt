@@ -8,7 +8,7 @@ use Rattle.plai_theory.specs.Tables.{source_of, HasName, IsClosed}
 use Rattle.plai_theory.specs.Edits.{Leads, Stay, Go, IsKept}
 use Rattle.plai_theory.specs.Edits as edits
 use Rattle.plai_theory.proofs.Rows.{item_in, in_item}
-use Rattle.plai_fix.specs.WorkStates.{KeptRow, Keeping, clause_at, IsNamed}
+use Rattle.plai_fix.specs.WorkStates.{KeptRow, Keeping, AtBoth, clause_at, IsNamed}
 use Rattle.plai_fix.proofs.Places.{have, has_some}
 use Rattle.plai_repair.specs.Lost.{IsLost, Itself, ByCall}
 use Rattle.plai_repair.specs.Whole.{IsWhole}
@@ -18,6 +18,17 @@ use Rattle.plai_repair.proofs.Members.{at_some}
 pub some_is : {A : Type 0} (P : A → Type 0) (o : Option A) → HasSome P o → (x : A) × (o ≡ Some x) × P x
 some_is P None h = absurd h
 some_is P (Some x) h = (x, refl, h)
+
+pub in_first : {A B : Type 0} (R : A → B → Type 0) (o : Option A) (u : Option B) (x : A) → o ≡ Some x → AtBoth R o u → (y : B) × (u ≡ Some y) × R x y
+in_first R None u x e h = cc
+in_first R (Some z) None x e h = absurd h
+in_first R (Some z) (Some y) x e h = let same : z ≡ x = cc in (y, refl, subst (λ a. R a y) same h)
+
+-- the clause of a number from 1
+pub numbered : (d : Domain) (g : Program d) (p : d.Pred) (m : ℕ) → IsSome (clause_at d g p m)
+    → (i : ℕ) × (c : d.Clause) × (m ≡ suc i) × (item (g.clauses p) i ≡ Some c)
+numbered d g p zero h = cc
+numbered d g p (suc i) h = let (c, e) = have (item (g.clauses p) i) h in (i, c, refl, e)
 
 -- the row of a name
 pub row_of_name : (d : Domain) (kept : List (KeptRow d)) (n : ℕ) (x : NameOf d) → IsNamed d kept n x

@@ -14,3 +14,9 @@ pub mod Cut
 pub mod Reaches
 pub mod Ended
 pub mod Again
+pub mod Ordered
+pub mod Results
+pub mod Entries
+pub mod Stays
+pub mod QuietEdits
+pub mod StillWhole

@@ -5,3 +5,4 @@ pub mod Gained
 pub mod Whole
 pub mod Opened
 pub mod Reached
+pub mod Unchanged

@@ -64,7 +64,7 @@ fn same_literals(one: &[Literal], two: &[Literal]) -> bool
 }
 
 /// Whether these are equal.
-fn same_clause(one: &Clause, two: &Clause) -> bool
+pub(crate) fn same_clause(one: &Clause, two: &Clause) -> bool
     ensures { (result ≡ true) ↔ (one.now ≡ two.now) }
 {
     let names = one.name == two.name;

@@ -1,10 +1,23 @@
-use Rattle.std.proofs.Common.{◌-◌, refl, sym, subst}
+use Rattle.std.proofs.Common.{◌-◌, refl, sym, ap, subst, rules}
 use Rattle.plai_rounds.specs.Causes.{HasCause}
-use Rattle.plai_fix.specs.Tables.{state_of}
+use Rattle.plai_eval.specs.Meaning.{as_domain, as_program}
+use Rattle.plai_theory.specs.LegalWork.{no_work}
+use Rattle.plai_fix.specs.Logs.{Opens}
+use Rattle.plai_fix.specs.Tables.{kept_rows, state_of}
+use Rattle.plai_fix.proofs.Ends.{nothing_opens}
 use Rattle.plai_analysis.specs.Work.{HasStopped}
 use Rattle.plai_analysis.proofs.Worked.{stopped}
 use Rattle.plai_analysis.proofs.Outcomes.{solved, not_over, cause}
 use Rattle.plai_analysis.proofs.analysis.analyse.Goals as goal
+
+pub solve-requires : goal.solve-requires
+solve-requires g c =
+    let p = g.D.Domain.plain c.args.domain.now in
+    let k = state_of g.D.Domain.value_of p c.in_ok-table.table.rows c.in_ok-arcs.arcs in
+    let opens : Opens (as_domain p) (as_program p c.args.program.now) (no_work (as_domain p)) k =
+    nothing_opens (as_domain p) (as_program p c.args.program.now) k
+    (ap (kept_rows g.D.Domain.value_of p) c.in_ok-table.ensures) c.in_ok-arcs.ensures.dirty c.in_ok-arcs.ensures.calls in
+    search (rules, opens)
 
 pub returns-in-Err-clause-causes : goal.returns-in-Err-clause-causes
 returns-in-Err-clause-causes g c =

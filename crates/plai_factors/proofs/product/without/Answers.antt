@@ -1,13 +1,19 @@
 use Rattle.std.proofs.Common.{◌≡◌, ◌||◌, true, false, [], List, Option, Some, None, sym, ap, subst, arith}
 use Rattle.std.proofs.lemmas.Grind.{common_steps}
 use Rattle.plai_bdd.specs.declared.node.Node.{Node}
-use Rattle.plai_bdd.specs.Assignment.{Assignment, with_slot}
+use Rattle.plai_bdd.specs.Assignment.{Assignment, IsFree, with_slot}
 use Rattle.plai_bdd.specs.Nodes.{IsFunction, holds}
 use Rattle.plai_bdd.specs.Slots.{some_slot}
+use Rattle.plai_bdd.proofs.Branches.{some_unused}
 use Rattle.plai_factors.specs.Product.{together}
 use Rattle.plai_factors.proofs.Products.{IsParting, parting_rest, parting_joined, parted_none, parted_some}
 use Rattle.plai_factors.proofs.product.without.Goals as goal
 use Rattle.plai_factors.proofs.product.without.Goals.{in-Some-joined+in_ok-less+in_ok-new+in_ok-push-2, in_default-joined}
+
+pub returns-then-is_unused : goal.returns-then-is_unused
+returns-then-is_unused c at =
+    some_unused (together c.args.factors.items) c.args.slot
+    (subst (λ fs. IsFree (together fs) c.args.slot) c.as_slice.ensures.value (c.is_unused.ensures c.if-is_unused.true)) c.args.slots at
 
 pub loop-factor-preserved-then-depends_on : goal.loop-factor-preserved-then-depends_on
 loop-factor-preserved-then-depends_on c =

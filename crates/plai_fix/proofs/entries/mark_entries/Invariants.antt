@@ -1,10 +1,10 @@
-use Rattle.std.proofs.Common.{◌≡◌, ℕ, true, false, map, take}
+use Rattle.std.proofs.Common.{◌≡◌, true, false, map, take}
 use Rattle.plai_theory.specs.Words.{IsIn}
 use Rattle.plai_theory.specs.Domain.{Name}
 use Rattle.plai_terms.specs.declared.abs.Abs.{Abs}
 use Rattle.plai_terms.specs.declared.pred_key.PredKey.{PredKey}
 use Rattle.plai_eval.specs.Meaning.{as_domain}
-use Rattle.plai_fix.specs.WorkStates.{IsNamed}
+use Rattle.plai_fix.specs.Solving.{HasLiveRow}
 use Rattle.plai_fix.specs.Tables.{key_name, kept_rows}
 use Rattle.plai_fix.specs.Stops.{AreMarkedAs}
 use Rattle.plai_fix.proofs.entries.mark_entries.Given as goal
@@ -19,6 +19,6 @@ invariant-loop-key g l =
     record {
       same : kept_rows value_of p l.table.rows ≡ old;
       marked : AreMarkedAs value_of names l.table.rows;
-      found : l.all ≡ true → (x : Name PredKey Abs) → IsIn x names → (j : ℕ) × IsNamed (as_domain p) old j x;
-      absent : l.all ≡ false → (x : Name PredKey Abs) × IsIn x names × ((j : ℕ) → IsNamed (as_domain p) old j x → ⊥);
+      found : l.all ≡ true → (x : Name PredKey Abs) → IsIn x names → HasLiveRow (as_domain p) old x;
+      absent : l.all ≡ false → (x : Name PredKey Abs) × IsIn x names × (HasLiveRow (as_domain p) old x → ⊥);
     }

@@ -1,9 +1,12 @@
-use Rattle.std.proofs.Common.{◌≡◌, ◌++◌, ◌∷◌, [], true, Some, None, position, sym, ap, ◌∙◌, subst}
+use Rattle.std.proofs.Common.{◌≡◌, ◌++◌, ◌∷◌, [], true, false, Some, None, position, sym, ap, ◌∙◌, subst}
 use Rattle.plai_table.specs.Rows.{names_of}
+use Rattle.plai_eval.specs.Meaning.{as_domain}
+use Rattle.plai_fix.specs.WorkStates.{is_live}
 use Rattle.plai_fix.specs.Tables.{key_name, kept_rows}
 use Rattle.plai_fix.specs.Stops.{AreMarkedAs}
 use Rattle.plai_fix.proofs.Keys.{same_key, found_named, absent_named}
 use Rattle.plai_fix.proofs.EntryMarks.{entry_kept, marked_more, marked_none}
+use Rattle.plai_fix.proofs.TableRows.{live_of}
 use Rattle.plai_fix.proofs.entries.mark_entry.Goals as goal
 
 pub returns-in-Some-clause-same : goal.returns-in-Some-clause-same
@@ -31,7 +34,26 @@ returns-in-Some-clause-found g c =
     let rows = c.args.table.now.rows in
     let at : position (same_key _ value_of g.D.Value.PartialEq.eq g.met.D.Domain.equal c.args.key.now)
     (names_of rows) ≡ Some c.in-Some.row = sym c.in-Some.ensures in
-    λ e. (c.in-Some.row, found_named _ value_of g.D.Value.PartialEq.eq g.met.D.Domain.equal p c.args.key.now rows c.in-Some.row at)
+    λ e. (
+      c.in-Some.row,
+      found_named _ value_of g.D.Value.PartialEq.eq g.met.D.Domain.equal p c.args.key.now rows c.in-Some.row at,
+      live_of _ value_of p rows c.in-Some.row _ c.row-live.ensures ∙ e,
+    )
+
+pub returns-in-Some-clause-absent : goal.returns-in-Some-clause-absent
+returns-in-Some-clause-absent g c =
+    let p = g.D.Domain.plain c.args._domain.now in
+    let value_of = g.D.Domain.value_of in
+    let rows = c.args.table.now.rows in
+    let at : position (same_key _ value_of g.D.Value.PartialEq.eq g.met.D.Domain.equal c.args.key.now)
+    (names_of rows) ≡ Some c.in-Some.row = sym c.in-Some.ensures in
+    λ e has.
+    let (j, named, live) = has in
+    let same : j ≡ c.in-Some.row = c.requires j c.in-Some.row (key_name value_of c.args.key.now) named
+    (found_named _ value_of g.D.Value.PartialEq.eq g.met.D.Domain.equal p c.args.key.now rows c.in-Some.row at) in
+    let l : true ≡ false = sym live ∙ ap (is_live (as_domain p) (kept_rows value_of p rows)) same
+    ∙ live_of _ value_of p rows c.in-Some.row _ c.row-live.ensures ∙ e in
+    cc
 
 pub returns-in-None-clause-marked : goal.returns-in-None-clause-marked
 returns-in-None-clause-marked g c =
@@ -49,4 +71,4 @@ returns-in-None-clause-absent g c =
     let value_of = g.D.Domain.value_of in
     let rows = c.args.table.now.rows in
     let none : position (same_key _ value_of g.D.Value.PartialEq.eq g.met.D.Domain.equal c.args.key.now) (names_of rows) ≡ None = sym c.in-None.ensures in
-    λ e. absent_named _ value_of g.D.Value.PartialEq.eq g.met.D.Domain.equal p c.args.key.now rows none
+    λ e has. absent_named _ value_of g.D.Value.PartialEq.eq g.met.D.Domain.equal p c.args.key.now rows none has.0 has.1

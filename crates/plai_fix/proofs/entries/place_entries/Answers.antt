@@ -1,12 +1,20 @@
 use Rattle.std.proofs.Common.{◌≡◌, ◌+◌, ◌∷◌, [], ◌++◌, None, map, vec_len, MatchOption, sym, ap, subst, rules}
 use Rattle.plai_theory.specs.Words.{IsIn}
 use Rattle.plai_eval.specs.Meaning.{as_domain, as_program}
-use Rattle.plai_fix.specs.Tables.{key_name, kept_rows, state_of}
+use Rattle.plai_fix.specs.Tables.{key_name, kept_rows}
 use Rattle.plai_fix.proofs.LookedUp.{in_left, in_last}
-use Rattle.plai_fix.proofs.Placed.{places_rows}
-use Rattle.plai_fix.proofs.OpenedRows.{AreOpening, opening_none, opening_more, entry_placed}
+use Rattle.plai_fix.proofs.OpenedRows.{AreOpening, opening_none, opening_more}
 use Rattle.plai_fix.proofs.Popped.{popped_last, popped_none}
 use Rattle.plai_fix.proofs.entries.place_entries.Goals as goal
+
+pub place_entry-requires-clause-entry : goal.place_entry-requires-clause-entry
+place_entry-requires-clause-entry g c =
+    let value_of = g.D.Domain.value_of in
+    let y = key_name value_of c.in-Some.key in
+    let left = map (key_name value_of) c.pop.new.self.items in
+    let names : map (key_name value_of) c.loop-key.keys.items ≡ left ++ y ∷ [] =
+    popped_last (key_name value_of) c.loop-key.keys.items c.pop.new.self.items c.in-Some.key c.in-Some.ensures.items in
+    c.loop-key.invariant.inside y (subst (IsIn y) (sym names) (in_last left y))
 
 pub loop-key-preserved : goal.loop-key-preserved
 loop-key-preserved g c =
@@ -14,24 +22,18 @@ loop-key-preserved g c =
     let value_of = g.D.Domain.value_of in
     let program = c.args.task.now.program.now in
     let limit = c.args.task.now.limit in
-    let laws = g.met.D.Domain.lawful c.args.task.now.domain.now in
-    let now = state_of value_of p c.loop-key.table.rows c.loop-key.arcs in
-    let told = g.W.Work.entries c.loop-key.work in
-    let new = state_of value_of p c.place.new.table.rows c.place.new.arcs in
-    let later = g.W.Work.entries c.place.new.work in
     let y = key_name value_of c.in-Some.key in
     let left = map (key_name value_of) c.pop.new.self.items in
     let names : map (key_name value_of) c.loop-key.keys.items ≡ left ++ y ∷ [] =
     popped_last (key_name value_of) c.loop-key.keys.items c.pop.new.self.items c.in-Some.key c.in-Some.ensures.items in
     record {
-      at_work = λ begun cost unmet w.
-          entry_placed p program limit y now told new later c.in_ok-place.field-0 c.in_ok-place.ensures.placed laws c.requires.well_formed begun cost unmet
-          (c.loop-key.invariant.inside y (subst (IsIn y) (sym names) (in_last left y))) (c.loop-key.invariant.at_work begun cost unmet w);
-      of_rows = places_rows p program limit y now told new later c.in_ok-place.field-0 c.in_ok-place.ensures.placed c.loop-key.invariant.of_rows;
-      opening = opening_more p program limit y now told new later c.in_ok-place.field-0 c.in_ok-place.ensures.placed left
+      at_work = λ begun cost w. c.in_ok-place_entry.ensures.at_work begun cost (c.loop-key.invariant.at_work begun cost w);
+      of_rows = c.in_ok-place_entry.ensures.of_rows;
+      opening = opening_more (as_domain p) (as_program p program) limit (kept_rows value_of p c.loop-key.table.rows)
+          (kept_rows value_of p c.place_entry.new.table.rows) y left c.in_ok-place_entry.ensures.extends c.in_ok-place_entry.ensures.live
           (subst (AreOpening (as_domain p) (as_program p program) limit (kept_rows value_of p c.loop-key.table.rows)) names c.loop-key.invariant.opening);
       inside = λ x i. c.loop-key.invariant.inside x (subst (IsIn x) (sym names) (in_left left (y ∷ []) x i));
-      queued = λ q. c.in_ok-place.ensures.queued (c.loop-key.invariant.queued q);
+      queued = λ q. c.in_ok-place_entry.ensures.queued (c.loop-key.invariant.queued q);
     }
 
 pub returns-clause-opened : goal.returns-clause-opened

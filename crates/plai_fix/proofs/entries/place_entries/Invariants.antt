@@ -1,13 +1,13 @@
-use Rattle.std.proofs.Common.{ℕ, Bool, List, Option, map, heap_items, vec_len}
+use Rattle.std.proofs.Common.{ℕ, map, heap_items, vec_len}
 use Rattle.plai_theory.specs.Words.{IsIn}
 use Rattle.plai_theory.specs.Domain.{Name}
 use Rattle.plai_terms.specs.declared.abs.Abs.{Abs}
 use Rattle.plai_terms.specs.declared.pred_key.PredKey.{PredKey}
-use Rattle.plai_domain.specs.declared.work.WorkEntry.{WorkEntry}
 use Rattle.plai_arcs.specs.Arcs.{is_dirty}
 use Rattle.plai_eval.specs.Meaning.{as_domain, as_program}
 use Rattle.plai_fix.specs.Tables.{key_name, kept_rows, state_of}
 use Rattle.plai_fix.specs.Queues.{IsQueued}
+use Rattle.plai_fix.specs.Told.{Origin}
 use Rattle.plai_fix.specs.Solving.{IsAtWork, AreOfRows}
 use Rattle.plai_fix.proofs.OpenedRows.{AreOpening}
 use Rattle.plai_fix.proofs.entries.place_entries.Given as goal
@@ -22,13 +22,12 @@ invariant-loop-key g l =
     let now = state_of value_of p l.table.rows l.arcs in
     let left = map (key_name value_of) l.keys.items in
     record {
-      at_work : (begun : Option (List WorkEntry)) (cost : ℕ) (unmet : ℕ → ℕ → Bool) → IsAtWork p program l.task.limit begun
-          (g.W.Work.entries l.initial.work) cost old unmet
-          → IsAtWork p program l.task.limit begun (g.W.Work.entries l.work) cost now unmet;
+      at_work : (begun : Origin) (cost : ℕ) → IsAtWork p program l.task.limit begun (g.W.Work.entries l.initial.work) cost old (is_dirty l.initial.unmet)
+          → IsAtWork p program l.task.limit begun (g.W.Work.entries l.work) cost now (is_dirty l.unmet);
       of_rows : AreOfRows now;
       opening : AreOpening (as_domain p) (as_program p program) l.task.limit (kept_rows value_of p l.table.rows) left;
       inside : (x : Name PredKey Abs) → IsIn x left → IsIn x (as_program p program).entries;
-      queued : IsQueued (is_dirty l.initial.arcs) (heap_items l.initial.queue) → IsQueued (is_dirty l.arcs) (heap_items l.queue);
+      queued : IsQueued old (heap_items l.initial.queue) → IsQueued now (heap_items l.queue);
     }
 
 abbrev pub decreases-loop-key : goal.decreases-loop-key

@@ -14,7 +14,7 @@ use Rattle.plai_fix.proofs.pair_work.evaluate_due.Goals as goal
 pub due_clause-clause-requires-clause-row : goal.due_clause-clause-requires-clause-row
 due_clause-clause-requires-clause-row g c =
     is_there _ g.D.Domain.value_of (g.D.Domain.plain c.args.task.now.domain.now) c.args.table.now.rows c.args.row
-    (c.requires.1.1.1.1.1.1.0.is.logged.keeps.dirty_rows c.args.row c.args.number c.requires.1.1.1.1.1.1.1)
+    (c.requires.1.1.1.1.1.1.0.is.logged.keeps.dirty_rows c.args.row c.args.number c.requires.1.1.1.1.1.1.1.0)
 
 pub due_clause-clause-requires-clause-there : goal.due_clause-clause-requires-clause-there
 due_clause-clause-requires-clause-there g c =
@@ -22,11 +22,11 @@ due_clause-clause-requires-clause-there g c =
     let rows = c.args.table.now.rows in
     let laws = g.met.D.Domain.lawful c.args.task.now.domain.now in
     λ name e.
-    (number_fits p laws c.args.task.now.program.now c.requires.1.1.1.1.1.0 c.args.task.now.limit g.begun.told (g.W.Work.entries c.args.work.now)
+    (number_fits p laws c.args.task.now.program.now c.requires.1.1.1.1.1.0 c.args.task.now.limit g.begun.origin (g.W.Work.entries c.args.work.now)
     (c.args.steps.now - g.begun.steps)
     (state_of g.D.Domain.value_of p rows c.args.arcs.now) (is_dirty c.args.unmet.now) c.requires.1.1.1.1.1.1.0 c.args.row c.args.number
     (key_name g.D.Domain.value_of name)
-    (named_at _ g.D.Domain.value_of p rows c.args.row name e) c.requires.1.1.1.1.1.1.1).1
+    (named_at _ g.D.Domain.value_of p rows c.args.row name e) c.requires.1.1.1.1.1.1.1.0 c.requires.1.1.1.1.1.1.1.1).1
 
 pub due_clause-clause-requires-clause-number : goal.due_clause-clause-requires-clause-number
 due_clause-clause-requires-clause-number g c =
@@ -34,18 +34,18 @@ due_clause-clause-requires-clause-number g c =
     let rows = c.args.table.now.rows in
     let laws = g.met.D.Domain.lawful c.args.task.now.domain.now in
     let here : c.args.row < length rows = is_there _ g.D.Domain.value_of p rows c.args.row
-    (c.requires.1.1.1.1.1.1.0.is.logged.keeps.dirty_rows c.args.row c.args.number c.requires.1.1.1.1.1.1.1) in
+    (c.requires.1.1.1.1.1.1.0.is.logged.keeps.dirty_rows c.args.row c.args.number c.requires.1.1.1.1.1.1.1.0) in
     let (name, e) = name_there _ g.D.Domain.value_of p rows c.args.row here in
-    (number_fits p laws c.args.task.now.program.now c.requires.1.1.1.1.1.0 c.args.task.now.limit g.begun.told (g.W.Work.entries c.args.work.now)
+    (number_fits p laws c.args.task.now.program.now c.requires.1.1.1.1.1.0 c.args.task.now.limit g.begun.origin (g.W.Work.entries c.args.work.now)
     (c.args.steps.now - g.begun.steps)
     (state_of g.D.Domain.value_of p rows c.args.arcs.now) (is_dirty c.args.unmet.now) c.requires.1.1.1.1.1.1.0 c.args.row c.args.number
     (key_name g.D.Domain.value_of name)
-    (named_at _ g.D.Domain.value_of p rows c.args.row name e) c.requires.1.1.1.1.1.1.1).0
+    (named_at _ g.D.Domain.value_of p rows c.args.row name e) c.requires.1.1.1.1.1.1.1.0 c.requires.1.1.1.1.1.1.1.1).0
 
 pub evaluate_pair-requires-clause-row : goal.evaluate_pair-requires-clause-row
 evaluate_pair-requires-clause-row g c =
     is_there _ g.D.Domain.value_of (g.D.Domain.plain c.args.task.now.domain.now) c.args.table.now.rows c.args.row
-    (c.requires.1.1.1.1.1.1.0.is.logged.keeps.dirty_rows c.args.row c.args.number c.requires.1.1.1.1.1.1.1)
+    (c.requires.1.1.1.1.1.1.0.is.logged.keeps.dirty_rows c.args.row c.args.number c.requires.1.1.1.1.1.1.1.0)
 
 pub evaluate_pair-requires-clause-number : goal.evaluate_pair-requires-clause-number
 evaluate_pair-requires-clause-number g c =
@@ -53,20 +53,20 @@ evaluate_pair-requires-clause-number g c =
     let rows = c.args.table.now.rows in
     let laws = g.met.D.Domain.lawful c.args.task.now.domain.now in
     let here : c.args.row < length rows = is_there _ g.D.Domain.value_of p rows c.args.row
-    (c.requires.1.1.1.1.1.1.0.is.logged.keeps.dirty_rows c.args.row c.args.number c.requires.1.1.1.1.1.1.1) in
+    (c.requires.1.1.1.1.1.1.0.is.logged.keeps.dirty_rows c.args.row c.args.number c.requires.1.1.1.1.1.1.1.0) in
     let (name, e) = name_there _ g.D.Domain.value_of p rows c.args.row here in
-    (number_fits p laws c.args.task.now.program.now c.requires.1.1.1.1.1.0 c.args.task.now.limit g.begun.told (g.W.Work.entries c.args.work.now)
+    (number_fits p laws c.args.task.now.program.now c.requires.1.1.1.1.1.0 c.args.task.now.limit g.begun.origin (g.W.Work.entries c.args.work.now)
     (c.args.steps.now - g.begun.steps)
     (state_of g.D.Domain.value_of p rows c.args.arcs.now) (is_dirty c.args.unmet.now) c.requires.1.1.1.1.1.1.0 c.args.row c.args.number
     (key_name g.D.Domain.value_of name)
-    (named_at _ g.D.Domain.value_of p rows c.args.row name e) c.requires.1.1.1.1.1.1.1).0
+    (named_at _ g.D.Domain.value_of p rows c.args.row name e) c.requires.1.1.1.1.1.1.1.0 c.requires.1.1.1.1.1.1.1.1).0
 
 pub evaluate_pair-requires-clause-clause : goal.evaluate_pair-requires-clause-clause
 evaluate_pair-requires-clause-clause g c =
     let p = g.D.Domain.plain c.args.task.now.domain.now in
     let rows = c.args.table.now.rows in
     let here : c.args.row < length rows = is_there _ g.D.Domain.value_of p rows c.args.row
-    (c.requires.1.1.1.1.1.1.0.is.logged.keeps.dirty_rows c.args.row c.args.number c.requires.1.1.1.1.1.1.1) in
+    (c.requires.1.1.1.1.1.1.0.is.logged.keeps.dirty_rows c.args.row c.args.number c.requires.1.1.1.1.1.1.1.0) in
     let (name, e) = name_there _ g.D.Domain.value_of p rows c.args.row here in
     c.requires.1.1.1.1.1.0.clauses name.pred c.due_clause-clause.result.now
     (clause_in (clauses_of c.args.task.now.program.now name.pred) (c.args.number - 1) c.due_clause-clause.result.now (c.due_clause-clause.ensures name e))
@@ -82,7 +82,7 @@ evaluate_pair-requires-clause-call g c =
     let rows = c.args.table.now.rows in
     let laws = g.met.D.Domain.lawful c.args.task.now.domain.now in
     λ name e.
-    name_fits p laws c.args.task.now.program.now c.requires.1.1.1.1.1.0 c.args.task.now.limit g.begun.told (g.W.Work.entries c.args.work.now)
+    name_fits p laws c.args.task.now.program.now c.requires.1.1.1.1.1.0 c.args.task.now.limit g.begun.origin (g.W.Work.entries c.args.work.now)
     (c.args.steps.now - g.begun.steps)
     (state_of g.D.Domain.value_of p rows c.args.arcs.now) (is_dirty c.args.unmet.now) c.requires.1.1.1.1.1.1.0 c.args.row (key_name g.D.Domain.value_of name)
     (named_at _ g.D.Domain.value_of p rows c.args.row name e)
@@ -91,7 +91,7 @@ pub evaluate_pair-requires-clause-answers : goal.evaluate_pair-requires-clause-a
 evaluate_pair-requires-clause-answers g c =
     let p = g.D.Domain.plain c.args.task.now.domain.now in
     let laws = g.met.D.Domain.lawful c.args.task.now.domain.now in
-    answers_fit p laws c.args.task.now.program.now c.requires.1.1.1.1.1.0 c.args.task.now.limit g.begun.told (g.W.Work.entries c.args.work.now)
+    answers_fit p laws c.args.task.now.program.now c.requires.1.1.1.1.1.0 c.args.task.now.limit g.begun.origin (g.W.Work.entries c.args.work.now)
     (c.args.steps.now - g.begun.steps)
     (state_of g.D.Domain.value_of p c.args.table.now.rows c.args.arcs.now) (is_dirty c.args.unmet.now) c.requires.1.1.1.1.1.1.0
 
@@ -102,16 +102,17 @@ returns-in_err-evaluated-clause-stops g c =
     let rows = c.args.table.now.rows in
     let laws = g.met.D.Domain.lawful c.args.task.now.domain.now in
     let here : c.args.row < length rows = is_there _ g.D.Domain.value_of p rows c.args.row
-    (c.requires.1.1.1.1.1.1.0.is.logged.keeps.dirty_rows c.args.row c.args.number c.requires.1.1.1.1.1.1.1) in
+    (c.requires.1.1.1.1.1.1.0.is.logged.keeps.dirty_rows c.args.row c.args.number c.requires.1.1.1.1.1.1.1.0) in
     let (name, e) = name_there _ g.D.Domain.value_of p rows c.args.row here in
     let told : IfErr c.from_residual.result (λ fail. (key : Key g.row.D-Value.Denot) → slice_get (names_of rows) c.args.row ≡ Some key
     → TellsOver p (kept_rows value_of p rows) (key_name value_of key) c.args.number c.due_clause-clause.result.now fail) = search rules in
     if_err _ _ c.from_residual.result told
     (λ fail h.
-    evaluation_stops p laws c.args.task.now.program.now c.requires.1.1.1.1.1.0 c.args.task.now.limit g.begun.told (g.W.Work.entries c.args.work.now)
+    evaluation_stops p laws c.args.task.now.program.now c.requires.1.1.1.1.1.0 c.args.task.now.limit g.begun.origin (g.W.Work.entries c.args.work.now)
     (c.args.steps.now - g.begun.steps)
     (state_of value_of p rows c.args.arcs.now) (is_dirty c.args.unmet.now) c.requires.1.1.1.1.1.1.0 c.args.row c.args.number (key_name value_of name)
-    (named_at _ value_of p rows c.args.row name e) c.requires.1.1.1.1.1.1.1 c.due_clause-clause.result.now (c.due_clause-clause.ensures name e)
+    (named_at _ value_of p rows c.args.row name e) c.requires.1.1.1.1.1.1.1.0 c.requires.1.1.1.1.1.1.1.1 c.due_clause-clause.result.now
+    (c.due_clause-clause.ensures name e)
     (g.W.Work.entries c.evaluate_pair.new.work) (c.evaluate_pair.new.steps - g.begun.steps) fail c.in_err-evaluated.ensures.nothing
     (omega (arith, c.evaluate_pair.ensures.cost)) (h name e))
 
@@ -122,12 +123,13 @@ returns-clause-evaluated g c =
     let rows = c.args.table.now.rows in
     let laws = g.met.D.Domain.lawful c.args.task.now.domain.now in
     let here : c.args.row < length rows = is_there _ g.D.Domain.value_of p rows c.args.row
-    (c.requires.1.1.1.1.1.1.0.is.logged.keeps.dirty_rows c.args.row c.args.number c.requires.1.1.1.1.1.1.1) in
+    (c.requires.1.1.1.1.1.1.0.is.logged.keeps.dirty_rows c.args.row c.args.number c.requires.1.1.1.1.1.1.1.0) in
     let (name, e) = name_there _ g.D.Domain.value_of p rows c.args.row here in
-    evaluates_told p laws c.args.task.now.program.now c.requires.1.1.1.1.1.0 c.args.task.now.limit g.begun.told (g.W.Work.entries c.args.work.now)
+    evaluates_told p laws c.args.task.now.program.now c.requires.1.1.1.1.1.0 c.args.task.now.limit g.begun.origin (g.W.Work.entries c.args.work.now)
     (c.args.steps.now - g.begun.steps)
     (state_of value_of p rows c.args.arcs.now) (is_dirty c.args.unmet.now) c.requires.1.1.1.1.1.1.0 c.args.row c.args.number (key_name value_of name)
-    (named_at _ value_of p rows c.args.row name e) c.requires.1.1.1.1.1.1.1 c.due_clause-clause.result.now (c.due_clause-clause.ensures name e)
+    (named_at _ value_of p rows c.args.row name e) c.requires.1.1.1.1.1.1.1.0 c.requires.1.1.1.1.1.1.1.1 c.due_clause-clause.result.now
+    (c.due_clause-clause.ensures name e)
     (state_of value_of p rows c.evaluate_pair.new.arcs) c.in_ok-evaluated.ensures.clears (is_dirty c.clear_dirty.new.self) c.clear_dirty.ensures.dirty
     (option_map value_of c.in_ok-evaluated.evaluated.answer) (map (key_name value_of) c.in_ok-evaluated.evaluated.calls) (c.in_ok-evaluated.ensures.ok name e)
     (g.W.Work.entries c.evaluate_pair.new.work) (c.evaluate_pair.new.steps - g.begun.steps + 1) (c.in_ok-evaluated.ensures.noted name e)
@@ -140,12 +142,13 @@ returns-clause-moves g c =
     let rows = c.args.table.now.rows in
     let laws = g.met.D.Domain.lawful c.args.task.now.domain.now in
     let here : c.args.row < length rows = is_there _ g.D.Domain.value_of p rows c.args.row
-    (c.requires.1.1.1.1.1.1.0.is.logged.keeps.dirty_rows c.args.row c.args.number c.requires.1.1.1.1.1.1.1) in
+    (c.requires.1.1.1.1.1.1.0.is.logged.keeps.dirty_rows c.args.row c.args.number c.requires.1.1.1.1.1.1.1.0) in
     let (name, e) = name_there _ g.D.Domain.value_of p rows c.args.row here in
-    evaluation_moves p laws c.args.task.now.program.now c.requires.1.1.1.1.1.0 c.args.task.now.limit g.begun.told (g.W.Work.entries c.args.work.now)
+    evaluation_moves p laws c.args.task.now.program.now c.requires.1.1.1.1.1.0 c.args.task.now.limit g.begun.origin (g.W.Work.entries c.args.work.now)
     (c.args.steps.now - g.begun.steps)
     (state_of value_of p rows c.args.arcs.now) (is_dirty c.args.unmet.now) c.requires.1.1.1.1.1.1.0 c.args.row c.args.number (key_name value_of name)
-    (named_at _ value_of p rows c.args.row name e) c.requires.1.1.1.1.1.1.1 c.due_clause-clause.result.now (c.due_clause-clause.ensures name e)
+    (named_at _ value_of p rows c.args.row name e) c.requires.1.1.1.1.1.1.1.0 c.requires.1.1.1.1.1.1.1.1 c.due_clause-clause.result.now
+    (c.due_clause-clause.ensures name e)
     (state_of value_of p rows c.evaluate_pair.new.arcs) c.in_ok-evaluated.ensures.clears (is_dirty c.clear_dirty.new.self) c.clear_dirty.ensures.dirty
     (option_map value_of c.in_ok-evaluated.evaluated.answer) (map (key_name value_of) c.in_ok-evaluated.evaluated.calls) (c.in_ok-evaluated.ensures.ok name e)
 
@@ -155,10 +158,10 @@ returns-clause-some g c =
     let rows = c.args.table.now.rows in
     let laws = g.met.D.Domain.lawful c.args.task.now.domain.now in
     let here : c.args.row < length rows = is_there _ g.D.Domain.value_of p rows c.args.row
-    (c.requires.1.1.1.1.1.1.0.is.logged.keeps.dirty_rows c.args.row c.args.number c.requires.1.1.1.1.1.1.1) in
+    (c.requires.1.1.1.1.1.1.0.is.logged.keeps.dirty_rows c.args.row c.args.number c.requires.1.1.1.1.1.1.1.0) in
     let (name, e) = name_there _ g.D.Domain.value_of p rows c.args.row here in
-    (number_fits p laws c.args.task.now.program.now c.requires.1.1.1.1.1.0 c.args.task.now.limit g.begun.told (g.W.Work.entries c.args.work.now)
+    (number_fits p laws c.args.task.now.program.now c.requires.1.1.1.1.1.0 c.args.task.now.limit g.begun.origin (g.W.Work.entries c.args.work.now)
     (c.args.steps.now - g.begun.steps)
     (state_of g.D.Domain.value_of p rows c.args.arcs.now) (is_dirty c.args.unmet.now) c.requires.1.1.1.1.1.1.0 c.args.row c.args.number
     (key_name g.D.Domain.value_of name)
-    (named_at _ g.D.Domain.value_of p rows c.args.row name e) c.requires.1.1.1.1.1.1.1).0
+    (named_at _ g.D.Domain.value_of p rows c.args.row name e) c.requires.1.1.1.1.1.1.1.0 c.requires.1.1.1.1.1.1.1.1).0

@@ -1,8 +1,8 @@
-use Rattle.std.proofs.Common.{◌+◌, ◌-◌, false, nat_eq, List, None, map, heap_items, sym, ap, ◌∙◌, subst, arith, rules}
+use Rattle.std.proofs.Common.{◌+◌, ◌-◌, false, nat_eq, List, None, map, heap_items, sym, refl, ap, ◌∙◌, subst, arith, rules}
 use Rattle.std.specs.Option.{option_map}
 use Rattle.std.specs.List.{list_any}
 use Rattle.plai_theory.specs.Domain.{Name}
-use Rattle.plai_theory.specs.LegalWork.{IsLegalLog, no_work}
+use Rattle.plai_theory.specs.LegalWork.{IsLegalLog}
 use Rattle.plai_terms.specs.declared.abs.Abs.{Abs}
 use Rattle.plai_terms.specs.declared.pred_key.PredKey.{PredKey}
 use Rattle.plai_arcs.specs.Arcs.{is_dirty}
@@ -11,7 +11,7 @@ use Rattle.plai_fix.specs.LookUps.{Looks}
 use Rattle.plai_fix.specs.Logs.{IsWorking}
 use Rattle.plai_fix.specs.Pairs.{Links}
 use Rattle.plai_fix.specs.Tables.{key_name, kept_row, kept_rows, state_of}
-use Rattle.plai_fix.specs.Told.{HasLog}
+use Rattle.plai_fix.specs.Told.{start_of, HasLog}
 use Rattle.plai_fix.specs.Moves.{Moves}
 use Rattle.plai_fix.proofs.Extended.{extends_then}
 use Rattle.plai_fix.proofs.Linked.{links_as}
@@ -41,17 +41,17 @@ settle_answer-requires-clause-alike g c =
     (map (key_name value_of) c.link_calls.new.missing.items))
     (ap (map (key_name value_of)) (c.into_vec.ensures)) c.in_ok-link_calls.ensures.looks in
     let past =
-    links_told p laws program good limit g.begun.told (g.W.Work.entries c.evaluate_due.new.work) cost mid (is_dirty c.evaluate_due.new.unmet) c.args.row
+    links_told p laws program good limit g.begun.origin (g.W.Work.entries c.evaluate_due.new.work) cost mid (is_dirty c.evaluate_due.new.unmet) c.args.row
     (c.args.number - 1) called answer
     c.in_ok-answer.ensures.evaluated linked c.link_calls.new.rows.items (map (key_name value_of) c.link_calls.new.missing.items) looks
     c.in_ok-link_calls.ensures.sets in
     λ r a b at e f.
-    alike_told p laws program good limit g.begun.told (g.W.Work.entries c.evaluate_due.new.work) cost linked (is_dirty c.evaluate_due.new.unmet) c.args.row
+    alike_told p laws program good limit g.begun.origin (g.W.Work.entries c.evaluate_due.new.work) cost linked (is_dirty c.evaluate_due.new.unmet) c.args.row
     (c.args.number - 1) called answer past
     (kept_row value_of p r) (kept_at _ value_of p rows c.args.row r at) (value_of a) (value_of b) (ap (option_map value_of) e) (ap (option_map value_of) f)
 
-pub place_missing-requires-clause-of_rows : goal.place_missing-requires-clause-of_rows
-place_missing-requires-clause-of_rows g c =
+pub place_called-requires-clause-of_rows : goal.place_called-requires-clause-of_rows
+place_called-requires-clause-of_rows g c =
     let p = g.D.Domain.plain c.args.task.now.domain.now in
     let value_of = g.D.Domain.value_of in
     let program = c.args.task.now.program.now in
@@ -69,12 +69,12 @@ place_missing-requires-clause-of_rows g c =
     (map (key_name value_of) c.link_calls.new.missing.items))
     (ap (map (key_name value_of)) (c.into_vec.ensures)) c.in_ok-link_calls.ensures.looks in
     let past =
-    links_told p laws program good limit g.begun.told (g.W.Work.entries c.evaluate_due.new.work) cost mid (is_dirty c.evaluate_due.new.unmet) c.args.row
+    links_told p laws program good limit g.begun.origin (g.W.Work.entries c.evaluate_due.new.work) cost mid (is_dirty c.evaluate_due.new.unmet) c.args.row
     (c.args.number - 1) called answer
     c.in_ok-answer.ensures.evaluated linked c.link_calls.new.rows.items (map (key_name value_of) c.link_calls.new.missing.items) looks
     c.in_ok-link_calls.ensures.sets in
-    let grown = c.in_ok-grown.ensures.settled g.begun.told cost (is_dirty c.evaluate_due.new.unmet) (c.args.number - 1) called past in
-    grown_of_rows p laws program good limit g.begun.told (g.W.Work.entries c.settle_answer.new.work) cost
+    let grown = c.in_ok-grown.ensures.settled g.begun.origin cost (is_dirty c.evaluate_due.new.unmet) (c.args.number - 1) called past in
+    grown_of_rows p laws program good limit g.begun.origin (g.W.Work.entries c.settle_answer.new.work) cost
     (state_of value_of p c.settle_answer.new.table.rows c.settle_answer.new.arcs)
     (is_dirty c.evaluate_due.new.unmet) c.args.row (c.args.number - 1) called _ grown.0
 
@@ -97,20 +97,20 @@ returns-in_err-placed-clause-stops g c =
     (map (key_name value_of) c.link_calls.new.missing.items))
     (ap (map (key_name value_of)) (c.into_vec.ensures)) c.in_ok-link_calls.ensures.looks in
     let past =
-    links_told p laws program good limit g.begun.told (g.W.Work.entries c.evaluate_due.new.work) cost mid (is_dirty c.evaluate_due.new.unmet) c.args.row
+    links_told p laws program good limit g.begun.origin (g.W.Work.entries c.evaluate_due.new.work) cost mid (is_dirty c.evaluate_due.new.unmet) c.args.row
     (c.args.number - 1) called answer
     c.in_ok-answer.ensures.evaluated linked c.link_calls.new.rows.items (map (key_name value_of) c.link_calls.new.missing.items) looks
     c.in_ok-link_calls.ensures.sets in
-    let grown = c.in_ok-grown.ensures.settled g.begun.told cost (is_dirty c.evaluate_due.new.unmet) (c.args.number - 1) called past in
+    let grown = c.in_ok-grown.ensures.settled g.begun.origin cost (is_dirty c.evaluate_due.new.unmet) (c.args.number - 1) called past in
     let links : Links (as_domain p) (kept_rows value_of p c.settle_answer.new.table.rows) called (λ j. list_any (nat_eq j) c.link_calls.new.rows.items)
     (map (key_name value_of) c.link_calls.new.missing.items) false =
     links_as (as_domain p) (kept_rows value_of p rows) (kept_rows value_of p c.settle_answer.new.table.rows) called
     (map (key_name value_of) c.link_calls.new.missing.items)
     (λ j. list_any (nat_eq j) c.link_calls.new.rows.items) c.in_ok-grown.ensures.extends.names
     (looks_links (as_domain p) (kept_rows value_of p rows) called c.link_calls.new.rows.items (map (key_name value_of) c.link_calls.new.missing.items) looks) in
-    let told : HasLog p program g.begun.told (g.W.Work.entries c.place_missing.new.work) 0
-    (IsLegalLog (as_domain p) (as_program p program) limit (no_work (as_domain p))) =
-    c.in_err-placed.ensures.told g.begun.told cost called grown.0 links in
+    let told : HasLog p program g.begun.origin.told (g.W.Work.entries c.place_called.new.work) 0
+    (IsLegalLog (as_domain p) (as_program p program) limit (start_of p g.begun.origin)) =
+    c.in_err-placed.ensures.told g.begun.origin cost called grown.0 links in
     search (rules, told)
 
 pub returns-clause-at_work : goal.returns-clause-at_work
@@ -132,30 +132,33 @@ returns-clause-at_work g c =
     (map (key_name value_of) c.link_calls.new.missing.items))
     (ap (map (key_name value_of)) (c.into_vec.ensures)) c.in_ok-link_calls.ensures.looks in
     let past =
-    links_told p laws program good limit g.begun.told (g.W.Work.entries c.evaluate_due.new.work) cost mid (is_dirty c.evaluate_due.new.unmet) c.args.row
+    links_told p laws program good limit g.begun.origin (g.W.Work.entries c.evaluate_due.new.work) cost mid (is_dirty c.evaluate_due.new.unmet) c.args.row
     (c.args.number - 1) called answer
     c.in_ok-answer.ensures.evaluated linked c.link_calls.new.rows.items (map (key_name value_of) c.link_calls.new.missing.items) looks
     c.in_ok-link_calls.ensures.sets in
-    let grown = c.in_ok-grown.ensures.settled g.begun.told cost (is_dirty c.evaluate_due.new.unmet) (c.args.number - 1) called past in
+    let grown = c.in_ok-grown.ensures.settled g.begun.origin cost (is_dirty c.evaluate_due.new.unmet) (c.args.number - 1) called past in
     let links : Links (as_domain p) (kept_rows value_of p c.settle_answer.new.table.rows) called (λ j. list_any (nat_eq j) c.link_calls.new.rows.items)
     (map (key_name value_of) c.link_calls.new.missing.items) false =
     links_as (as_domain p) (kept_rows value_of p rows) (kept_rows value_of p c.settle_answer.new.table.rows) called
     (map (key_name value_of) c.link_calls.new.missing.items)
     (λ j. list_any (nat_eq j) c.link_calls.new.rows.items) c.in_ok-grown.ensures.extends.names
     (looks_links (as_domain p) (kept_rows value_of p rows) called c.link_calls.new.rows.items (map (key_name value_of) c.link_calls.new.missing.items) looks) in
-    let done = c.in_ok-placed.ensures.at_work g.begun.told cost called grown.0 links in
-    has_less p program g.begun.told (g.W.Work.entries c.place_missing.new.work) cost
-    (λ log. IsWorking (as_domain p) (as_program p program) (as_limits p) limit (no_work (as_domain p)) log
-    (state_of value_of p c.place_missing.new.table.rows c.place_missing.new.arcs) None None
-    (is_dirty c.place_missing.new.unmet)) _ done (c.settle_answer.new.steps - g.begun.steps) (omega (arith, c.settle_answer.ensures.cost)) (λ w. w)
+    let done = c.in_ok-placed.ensures.at_work g.begun.origin cost called grown.0 links in
+    has_less p program g.begun.origin.told (g.W.Work.entries c.place_called.new.work) cost
+    (λ log. IsWorking (as_domain p) (as_program p program) (as_limits p) limit (start_of p g.begun.origin) log
+    (state_of value_of p c.place_called.new.table.rows c.place_called.new.arcs) None None
+    (is_dirty c.place_called.new.unmet)) _ done (c.settle_answer.new.steps - g.begun.steps) (omega (arith, c.settle_answer.ensures.cost)) (λ w. w)
 
 pub returns-clause-queued : goal.returns-clause-queued
 returns-clause-queued g c =
-    let mid = queued_less (is_dirty c.args.arcs.now) (is_dirty c.evaluate_due.new.arcs)
-    (heap_items c.args.queue.now) c.in_ok-answer.ensures.dirty c.requires.1.1.1.1.1.1.1.1 in
+    let p = g.D.Domain.plain c.args.task.now.domain.now in
+    let value_of = g.D.Domain.value_of in
+    let rows = c.args.table.now.rows in
+    let mid = queued_less (as_domain p) (state_of value_of p rows c.args.arcs.now) (state_of value_of p rows c.evaluate_due.new.arcs)
+    (heap_items c.args.queue.now) refl c.in_ok-answer.ensures.dirty c.requires.1.1.1.1.1.1.1.1.1 in
     c.in_ok-placed.ensures.queued (c.in_ok-grown.ensures.queued
-    (queued_less (is_dirty c.evaluate_due.new.arcs) (is_dirty c.link_calls.new.arcs) (heap_items c.args.queue.now)
-    (λ n m e. sym (c.in_ok-link_calls.ensures.sets.dirty n m) ∙ e) mid))
+    (queued_less (as_domain p) (state_of value_of p rows c.evaluate_due.new.arcs) (state_of value_of p rows c.link_calls.new.arcs)
+    (heap_items c.args.queue.now) refl (λ n m e. sym (c.in_ok-link_calls.ensures.sets.dirty n m) ∙ e) mid))
 
 pub returns-clause-moves : goal.returns-clause-moves
 returns-clause-moves g c =
@@ -176,14 +179,14 @@ returns-clause-moves g c =
     (map (key_name value_of) c.link_calls.new.missing.items))
     (ap (map (key_name value_of)) (c.into_vec.ensures)) c.in_ok-link_calls.ensures.looks in
     let past =
-    links_told p laws program good limit g.begun.told (g.W.Work.entries c.evaluate_due.new.work) cost mid (is_dirty c.evaluate_due.new.unmet) c.args.row
+    links_told p laws program good limit g.begun.origin (g.W.Work.entries c.evaluate_due.new.work) cost mid (is_dirty c.evaluate_due.new.unmet) c.args.row
     (c.args.number - 1) called answer
     c.in_ok-answer.ensures.evaluated linked c.link_calls.new.rows.items (map (key_name value_of) c.link_calls.new.missing.items) looks
     c.in_ok-link_calls.ensures.sets in
-    let grown = c.in_ok-grown.ensures.settled g.begun.told cost (is_dirty c.evaluate_due.new.unmet) (c.args.number - 1) called past in
+    let grown = c.in_ok-grown.ensures.settled g.begun.origin cost (is_dirty c.evaluate_due.new.unmet) (c.args.number - 1) called past in
     let before = state_of value_of p rows c.args.arcs.now in
     let raised = state_of value_of p c.settle_answer.new.table.rows c.settle_answer.new.arcs in
-    let new = state_of value_of p c.place_missing.new.table.rows c.place_missing.new.arcs in
+    let new = state_of value_of p c.place_called.new.table.rows c.place_called.new.arcs in
     subst (Moves (as_domain p) (as_program p program) limit (λ pred. p.rank) before new) (sym c.and.ensures)
     (moves_all (as_domain p) (as_program p program) limit (λ pred. p.rank) before mid linked raised new c.args.row (c.args.number - 1)
     (λ j. list_any (nat_eq j) c.link_calls.new.rows.items)
@@ -194,5 +197,5 @@ returns-clause-extends g c =
     let p = g.D.Domain.plain c.args.task.now.domain.now in
     let value_of = g.D.Domain.value_of in
     extends_then (as_domain p) (kept_rows value_of p c.args.table.now.rows) (kept_rows value_of p c.settle_answer.new.table.rows)
-    (kept_rows value_of p c.place_missing.new.table.rows)
+    (kept_rows value_of p c.place_called.new.table.rows)
     c.in_ok-grown.ensures.extends c.in_ok-placed.ensures.extends

@@ -1,11 +1,14 @@
-use Rattle.std.proofs.Common.{◌≡◌, ◌≤◌, ◌<◌, [], ◌∷◌, ◌++◌, length, slice_get, Some, None, position, sym, refl, ◌∙◌, subst, arith, rules}
+use Rattle.std.proofs.Common.{◌≡◌, ◌≤◌, ◌<◌, [], ◌∷◌, ◌++◌, length, slice_get, Some, None, position, heap_items, sym, refl, ap, ◌∙◌, subst, arith, rules}
 use Rattle.plai_clauses.specs.Program.{clauses_of}
 use Rattle.plai_table.specs.Rows.{names_of, live_count, new_row}
 use Rattle.plai_arcs.specs.Arcs.{is_dirty, is_call}
-use Rattle.plai_fix.specs.Tables.{key_name, state_of}
+use Rattle.plai_eval.specs.Meaning.{as_domain}
+use Rattle.plai_fix.specs.Tables.{key_name, kept_row, kept_rows, state_of}
+use Rattle.plai_fix.specs.Queues.{IsQueued}
 use Rattle.plai_fix.specs.Solving.{Places, IsThere, IsLacking}
 use Rattle.plai_fix.proofs.Keys.{same_key, found_named, absent_named}
-use Rattle.plai_fix.proofs.Makings.{makes}
+use Rattle.plai_fix.proofs.Makings.{makes, map_push}
+use Rattle.plai_fix.proofs.Extended.{queued_push}
 use Rattle.plai_fix.proofs.TableRows.{last_name, kept_lives, kept_length, fresh_row, not_full}
 use Rattle.plai_fix.proofs.Placed.{placed_made}
 use Rattle.plai_fix.proofs.placing.place.Goals as goal
@@ -56,3 +59,23 @@ returns-in-Err-Full-clause-placed g c =
     (g.W.Work.entries c.args.work.now)
     (state_of value_of p rs c.args.arcs.now) (g.W.Work.entries c.args.work.now) None) (sym same)
     (IsLacking (absent_named _ value_of g.D.Value.PartialEq.eq g.met.D.Domain.equal p c.args.name rows none) (omega arith))
+
+pub returns-in_ok-begin_row-in-Ok-clause-queued : goal.returns-in_ok-begin_row-in-Ok-clause-queued
+returns-in_ok-begin_row-in-Ok-clause-queued g c =
+    let value_of = g.D.Domain.value_of in
+    let p = g.D.Domain.plain c.args.task.now.domain.now in
+    let rows = c.args.table.now.rows in
+    let (at, added) = c.in-Ok.ensures.ok in
+    λ queued.
+    c.in_ok-begin_row-in-Ok.ensures.queued
+    (queued_push (as_domain p) (state_of value_of p rows c.args.arcs.now) (state_of value_of p c.add.new.self.rows c.args.arcs.now)
+    (kept_row value_of p (new_row c.args.name)) (heap_items c.args.queue.now) queued c.requires
+    (ap (kept_rows value_of p) added ∙ map_push (kept_row value_of p) rows (new_row c.args.name)) (λ n m. refl))
+
+pub returns-in-Err-Full-clause-queued : goal.returns-in-Err-Full-clause-queued
+returns-in-Err-Full-clause-queued g c =
+    let value_of = g.D.Domain.value_of in
+    let p = g.D.Domain.plain c.args.task.now.domain.now in
+    let rows = c.args.table.now.rows in
+    let same : c.add.new.self.rows ≡ rows = search rules in
+    λ queued. subst (λ rs. IsQueued (state_of value_of p rs c.args.arcs.now) (heap_items c.args.queue.now)) (sym same) queued

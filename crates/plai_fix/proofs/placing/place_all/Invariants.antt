@@ -1,14 +1,13 @@
-use Rattle.std.proofs.Common.{ℕ, Bool, false, nat_eq, List, Option, map, heap_items, vec_len}
+use Rattle.std.proofs.Common.{ℕ, Bool, false, nat_eq, List, map, heap_items, vec_len}
 use Rattle.std.specs.List.{list_any}
 use Rattle.plai_theory.specs.Domain.{Name}
 use Rattle.plai_terms.specs.declared.abs.Abs.{Abs}
 use Rattle.plai_terms.specs.declared.pred_key.PredKey.{PredKey}
-use Rattle.plai_domain.specs.declared.work.WorkEntry.{WorkEntry}
-use Rattle.plai_arcs.specs.Arcs.{is_dirty}
 use Rattle.plai_eval.specs.Meaning.{as_domain}
 use Rattle.plai_fix.specs.WorkStates.{Extends}
 use Rattle.plai_fix.specs.Tables.{key_name, kept_rows, state_of}
 use Rattle.plai_fix.specs.Queues.{IsQueued}
+use Rattle.plai_fix.specs.Told.{Origin}
 use Rattle.plai_fix.specs.Solving.{AreOfRows, IsPlacing}
 use Rattle.plai_fix.specs.Moves.{Adds}
 use Rattle.plai_fix.proofs.placing.place_all.Given as goal
@@ -21,7 +20,7 @@ invariant-loop-name g l =
     let old = state_of value_of p l.initial.table.rows l.initial.arcs in
     let now = state_of value_of p l.table.rows l.arcs in
     record {
-      placing : (begun : Option (List WorkEntry)) (cost : ℕ) (unmet : ℕ → ℕ → Bool) (n i : ℕ) (called : List (Name PredKey Abs))
+      placing : (begun : Origin) (cost : ℕ) (unmet : ℕ → ℕ → Bool) (n i : ℕ) (called : List (Name PredKey Abs))
           → IsPlacing p l.task.program.now l.task.limit begun (g.W.Work.entries l.initial.work) cost old unmet n i called
           (λ j. list_any (nat_eq j) l.initial.rows.items)
           (map (key_name value_of) l.initial.missing.items) false
@@ -30,7 +29,7 @@ invariant-loop-name g l =
       of_rows : AreOfRows now;
       adds : Adds (as_domain p) l.task.limit old now;
       extends : Extends (as_domain p) (kept_rows value_of p l.initial.table.rows) (kept_rows value_of p l.table.rows);
-      queued : IsQueued (is_dirty l.initial.arcs) (heap_items l.initial.queue) → IsQueued (is_dirty l.arcs) (heap_items l.queue);
+      queued : IsQueued old (heap_items l.initial.queue) → IsQueued now (heap_items l.queue);
     }
 
 abbrev pub decreases-loop-name : goal.decreases-loop-name

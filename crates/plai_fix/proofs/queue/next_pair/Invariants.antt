@@ -1,11 +1,11 @@
 use Rattle.std.proofs.Common.{heap_items, heap_len}
-use Rattle.plai_arcs.specs.Arcs.{is_dirty}
+use Rattle.plai_fix.specs.Tables.{state_of}
 use Rattle.plai_fix.specs.Queues.{IsQueued}
 use Rattle.plai_fix.proofs.queue.next_pair.Given as goal
 
--- each dirty pair's row is still there
+-- each dirty pair's live row is still there
 abbrev pub invariant-loop-row : goal.invariant-loop-row
-invariant-loop-row l = IsQueued (is_dirty l.arcs) (heap_items l.queue)
+invariant-loop-row g l = IsQueued (state_of g.D.Domain.value_of (g.D.Domain.plain l.domain) l.table.rows l.arcs) (heap_items l.queue)
 
 abbrev pub decreases-loop-row : goal.decreases-loop-row
-decreases-loop-row l = heap_len l.queue
+decreases-loop-row g l = heap_len l.queue

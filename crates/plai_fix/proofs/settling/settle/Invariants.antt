@@ -20,9 +20,9 @@ invariant-loop g l =
     let old = kept_rows value_of p l.initial.table.rows in
     let now = kept_rows value_of p l.table.rows in
     record {
-      at_work : IsAtWork p l.task.program.now l.task.limit g.begun.told (g.W.Work.entries l.work) (l.steps - g.begun.steps)
+      at_work : IsAtWork p l.task.program.now l.task.limit g.begun.origin (g.W.Work.entries l.work) (l.steps - g.begun.steps)
           (state_of value_of p l.table.rows l.arcs) (is_dirty l.unmet);
-      queued : IsQueued (is_dirty l.arcs) (heap_items l.queue);
+      queued : IsQueued (state_of value_of p l.table.rows l.arcs) (heap_items l.queue);
       extends : Extends (as_domain p) old now;
     }
 

@@ -4,7 +4,7 @@ use Rattle.plai_arcs.specs.Arcs.{is_dirty, is_call}
 use Rattle.plai_eval.specs.Meaning.{as_domain, as_program}
 use Rattle.plai_fix.specs.WorkStates.{KeptRow}
 use Rattle.plai_fix.specs.Tables.{key_name, state_of}
-use Rattle.plai_fix.specs.Told.{HasLog}
+use Rattle.plai_fix.specs.Told.{start_of, HasLog}
 use Rattle.plai_fix.specs.Stops.{IsSolvedBy}
 use Rattle.plai_fix.proofs.Finished.{solved_told, stopped_pair, stopped_entry}
 use Rattle.plai_fix.proofs.solving.finish.Goals as goal
@@ -51,7 +51,7 @@ returns-clause-solved g c =
     let names : map (key_name value_of) c.as_slice.result.now ≡ (as_program p program).entries = ap (map (key_name value_of)) c.as_slice.ensures.value
     ∙ c.in_ok-keys.ensures in
     λ begun told cost at_work.
-    subst (λ (ks : List (KeptRow (as_domain p))). HasLog p program begun told cost (IsSolvedBy p program limit
+    subst (λ (ks : List (KeptRow (as_domain p))). HasLog p program begun.told told cost (IsSolvedBy p program limit (start_of p begun)
     (record { rows = ks; dirty = is_dirty c.args._arcs.now; calls = is_call c.args._arcs.now })))
     (sym c.mark_entries.ensures.same)
     (solved_told p laws program c.requires.well_formed limit begun told cost (state_of value_of p c.args.table.now.rows c.args._arcs.now)

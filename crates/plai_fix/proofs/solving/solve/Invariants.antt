@@ -1,5 +1,5 @@
 use Rattle.plai_fix.proofs.solving.solve.Given as goal
 
--- what was told and counted before the call
+-- where work begins, and what was told and counted before the call
 abbrev pub ghost-solve_task : goal.ghost-solve_task
-ghost-solve_task g a = record { told = g.W.Work.entries a.work.now; steps = a.steps.now }
+ghost-solve_task g a = record { origin = record { rows = g.start; told = g.W.Work.entries a.work.now }; steps = a.steps.now }

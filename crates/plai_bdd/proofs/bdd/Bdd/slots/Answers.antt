@@ -1,5 +1,3 @@
-use Rattle.std.proofs.Common.{ap, ◌∙◌}
-use Rattle.std.specs.List.{list_any}
 use Rattle.plai_bdd.proofs.Branches.{unused_seen}
 use Rattle.plai_bdd.proofs.bdd.Bdd.slots.Goals as goal
 
