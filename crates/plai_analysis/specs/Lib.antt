@@ -1,6 +1,8 @@
+pub mod Starts
+pub mod Quiet
+pub mod Kept
+pub mod Causes
 pub mod Solved
-pub mod Reached
-pub mod Gathering
 pub mod Output
 pub mod Fails
 pub mod Work

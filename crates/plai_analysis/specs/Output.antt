@@ -1,38 +1,33 @@
 -- Rows that a table keeps as rows of patterns (Muthukumar and Hermenegildo 1992).
-use Rattle.std.specs.Prelude.{◌≡◌, ℕ, ◌≤◌, All, List, [], ◌∷◌, length, Some, unwrap_or}
-use Rattle.plai_theory.specs.Words.{IsIn, HasSome, given, item}
+use Rattle.std.specs.Prelude.{◌≡◌, ℕ, ◌≤◌, All, List, length, slice_get, Some, unwrap_or}
+use Rattle.std.specs.Option.{option_map}
 use Rattle.plai_terms.specs.declared.abs.Abs.{Abs}
 use Rattle.plai_terms.specs.declared.abs.Abs.TheVariants.{Nothing}
 use Rattle.plai_terms.specs.declared.plain_row.PlainRow.{PlainRow}
+use Rattle.plai_domain.specs.Names.{name_of}
 use Rattle.plai_domain.specs.Plain.{PlainDomain}
 use Rattle.plai_domain.specs.Conditions.{most_arguments, IsValue}
 use Rattle.plai_clauses.specs.Program.{ProgramView}
 use Rattle.plai_assert.specs.declared.row.Row.{Row}
 use Rattle.plai_assert.specs.Rows.{IsFit}
-use Rattle.plai_eval.specs.Meaning.{row_name, as_domain}
 use Rattle.plai_eval.specs.LeastTable.{IsLeastTable}
 use Rattle.plai_render.specs.Order.{IsNarrow}
-use Rattle.plai_fix.specs.WorkStates.{KeptRow}
+use Rattle.plai_table.specs.Rows.{TableRow}
 
 -- `Nothing` stands for no answer
-abbrev pub plain_row : (p : PlainDomain) → KeptRow (as_domain p) → PlainRow
-plain_row p kept = record { name = row_name kept.name; answer = unwrap_or kept.answer Nothing }
-
--- the rows of these numbers
-abbrev pub rows_at : (p : PlainDomain) → List (KeptRow (as_domain p)) → List ℕ → List PlainRow
-rows_at p kept [] = []
-rows_at p kept (n ∷ numbers) = given (rows_at p kept numbers) (λ r. plain_row p r ∷ rows_at p kept numbers) (item kept n)
+abbrev pub plain_row : {V : Type 0} → (V → Abs) → TableRow V → PlainRow
+plain_row value_of r = record { name = name_of value_of r.name; answer = unwrap_or (option_map value_of r.answer) Nothing }
 
 -- a row that can be shown: its call and its answer are values of as many arguments as its predicate has, which are few
-pub record IsFitRow (p : PlainDomain) (kept : KeptRow (as_domain p)) : Type 0 where
-  pub few : kept.name.pred.arity ≤ most_arguments
-  pub call : IsValue p kept.name.pred.arity kept.name.call
-  pub answer : (a : Abs) → kept.answer ≡ Some a → IsValue p kept.name.pred.arity a
+pub record IsFitRow {V : Type 0} (value_of : V → Abs) (p : PlainDomain) (r : TableRow V) : Type 0 where
+  pub few : r.name.pred.arity ≤ most_arguments
+  pub call : IsValue p r.name.pred.arity (value_of r.name.call)
+  pub answer : (a : V) → r.answer ≡ Some a → IsValue p r.name.pred.arity (value_of a)
 
-abbrev pub AreFit : (p : PlainDomain) → List (KeptRow (as_domain p)) → List ℕ → Type 0
-AreFit p kept numbers = (n : ℕ) → IsIn n numbers → HasSome (IsFitRow p) (item kept n)
+abbrev pub AreFit : {V : Type 0} → (V → Abs) → PlainDomain → List (TableRow V) → Type 0
+AreFit {V} value_of p rows = (n : ℕ) (r : TableRow V) → slice_get rows n ≡ Some r → IsFitRow value_of p r
 
--- the same of a row over a domain's own values
+-- the same of a row that is read
 abbrev pub IsShown : {V : Type 0} → (V → Abs) → PlainDomain → Row V → Type 0
 IsShown value_of p row = (row.name.now.pred.arity ≤ most_arguments) × IsFit value_of p row
 

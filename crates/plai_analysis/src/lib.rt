@@ -5,10 +5,9 @@
 mod analysed;
 mod analysis;
 mod patterns;
-mod reach;
 mod rows;
 mod table;
 
 pub use analysed::Analysed;
-pub use analysis::analyse;
-pub use table::{rows_of_work, table_of_work};
+pub use analysis::{analyse, analyse_again};
+pub use table::rows_of_table;

@@ -6,8 +6,7 @@ ghost use Rattle.plai_terms.specs.Pattern.{pattern_text};
 ghost use Rattle.plai_domain.specs.Conditions.{IsSmallValue};
 ghost use Rattle.plai_assert.specs.Rows.{plain};
 ghost use Rattle.plai_render.specs.Texts.{text_of, AreTextsOf};
-ghost use Rattle.plai_fix.specs.Tables.{kept_rows};
-ghost use Rattle.plai_analysis.specs.Output.{rows_at, AreFit, IsShown};
+ghost use Rattle.plai_analysis.specs.Output.{plain_row, AreFit, IsShown};
 
 use plai_assert::Row;
 use plai_domain::Domain;
@@ -16,20 +15,19 @@ use plai_table::Table;
 use plai_terms::Listed;
 use std::alloc::{AllocError, Global};
 
-/// The rows of these numbers.
-pub(crate) fn numbered_rows<'a, D: Domain>(
+/// The rows of the table.
+pub(crate) fn rows_of<'a, D: Domain>(
     alloc: Global,
     _domain: &D,
     table: &'a Table<D::Value>,
-    numbers: &[u64],
 ) -> Result<Vec<Row<'a, D::Value>>, AllocError>
-    requires { AreFit (D.plain _domain.now) (kept_rows D.value_of (D.plain _domain.now) table.now.rows) numbers.now }
-    ensures rows { IfOk result (λ rows. map (plain D.value_of) rows.items ≡ rows_at (D.plain _domain.now) (kept_rows D.value_of (D.plain _domain.now) table.now.rows) numbers.now) }
+    requires { AreFit D.value_of (D.plain _domain.now) table.now.rows }
+    ensures rows { IfOk result (λ rows. map (plain D.value_of) rows.items ≡ map (plain_row D.value_of) table.now.rows) }
     ensures shown { IfOk result (λ rows. All (IsShown D.value_of (D.plain _domain.now)) rows.items) }
 {
-    let mut rows = Vec::with_capacity(alloc, numbers.len())?;
-    for number in numbers {
-        let row = table.row(*number);
+    let mut rows = Vec::with_capacity(alloc, table.len() as usize)?;
+    for number in 0..table.len() {
+        let row = table.row(number);
         rows.push(Row {
             name: row.name,
             answer: row.answer,
