@@ -1,10 +1,3 @@
-pub mod Members
-pub mod Gathered
-pub mod Spread
-pub mod Needed
 pub mod LeastRows
-pub mod LogRows
 pub mod Shown
-pub mod Causes
-pub mod Outcomes
-pub mod Worked
+pub mod Kept
