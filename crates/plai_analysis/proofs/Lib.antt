@@ -8,3 +8,5 @@ pub mod Shown
 pub mod Causes
 pub mod Outcomes
 pub mod Worked
+pub mod Openings
+pub mod QuietEdits
