@@ -27,7 +27,7 @@ use Rattle.plai_analysis.specs.Starts.{IsStart}
 use Rattle.plai_analysis.specs.Solved.{IsSolvedWork}
 
 some_within : {A : Type 0} (xs : List A) (i : ℕ) → IsSome (item xs i) → i < length xs
-some_within [] i h = absurd h
+some_within [] i h = cc
 some_within (x ∷ xs) zero h = omega arith
 some_within (x ∷ xs) (suc i) h = let k = some_within xs i h in omega (arith, k)
 
@@ -47,12 +47,12 @@ module _ {V : Type 0} (value_of : V → Abs) (p : PlainDomain) (program : Progra
   kept_within n h = some_within table n (at (item table n) (subst IsSome (item_map (kept_row value_of p) table n) h))
     where
       at : (o : Option (TableRow V)) → IsSome (given None (λ (t : TableRow V). Some (kept_row value_of p t)) o) → IsSome o
-      at None h = h
-      at (Some t) h = tt
+      at None h = cc
+      at (Some t) h = refl
 
   clause_bound : (pred : PredKey) (m : ℕ) → IsSome (clause_at (as_domain p) (as_program p program) pred m)
       → (1 ≤ m) × (m ≤ length (clauses_of program pred))
-  clause_bound pred zero h = absurd h
+  clause_bound pred zero h = cc
   clause_bound pred (suc i) h = let k = some_within (clauses_of program pred) i h in (omega arith, omega (arith, k))
 
   -- the dirty pairs are those of rows,

@@ -1,12 +1,12 @@
 -- The rows of a table that keeps the least table, as patterns.
-use Rattle.std.proofs.Common.{◌≡◌, ◌≢◌, ℕ, zero, suc, ◌+◌, ◌<◌, ◌≤◌, All, Contains, List, [], ◌∷◌, map, length, get_or, slice_get, unwrap_or, Option, Some, None}
+use Rattle.std.proofs.Common.{◌≡◌, ◌≢◌, ℕ, zero, suc, ◌+◌, ◌<◌, ◌≤◌, All, Contains, List, [], ◌∷◌, map, length, get_or, unwrap_or, Option, Some, None}
 use Rattle.std.proofs.Common.{sym, refl, ap, ◌∙◌, subst, inl, inr, arith}
 use Rattle.std.specs.Option.{option_map}
 use Rattle.std.specs.List.{AllByRecursion}
 use Rattle.std.specs.List.Sorted.{IsPermutation}
 use Rattle.std.proofs.lemmas.List.Elements.{recursion_from_All}
 use Rattle.std.proofs.lemmas.List.Sorted.{All-permutation, Contains-permutation, IsPermutation-sym}
-use Rattle.plai_theory.specs.Words.{IsIn, UpTo, given, item}
+use Rattle.plai_theory.specs.Words.{IsIn, given, item}
 use Rattle.plai_theory.specs.Domain.{Name}
 use Rattle.plai_theory.specs.Domain as theory
 use Rattle.plai_theory.specs.Stages.{stage}
@@ -25,13 +25,13 @@ use Rattle.plai_terms.specs.Pattern.{arity_of}
 use Rattle.plai_terms.specs.RowOrder.{IsBefore, HaveSameText}
 use Rattle.plai_terms.specs.Rows.{AreInOrder}
 use Rattle.plai_domain.specs.Plain.{PlainDomain}
-use Rattle.plai_domain.specs.Conditions.{most_arguments, IsValue}
+use Rattle.plai_domain.specs.Conditions.{IsValue}
 use Rattle.plai_domain.specs.Laws.{IsLawful}
 use Rattle.plai_domain.specs.Printed.{IsPrinted}
 use Rattle.plai_clauses.specs.Program.{ProgramView}
 use Rattle.plai_clauses.specs.WellFormed.{IsWellFormed}
 use Rattle.plai_assert.specs.Verdicts.{verdicts_of}
-use Rattle.plai_eval.specs.Meaning.{row_name, as_domain, as_program}
+use Rattle.plai_eval.specs.Meaning.{as_domain, as_program}
 use Rattle.plai_eval.specs.LeastTable.{answer_in, row_of, before, IsLeastTable}
 use Rattle.plai_eval.proofs.Closed.{all_in, same_up_to}
 use Rattle.plai_eval.proofs.One.{strict}
@@ -245,11 +245,14 @@ module _ {V : Type 0} (value_of : V → Abs) (p : PlainDomain) (laws : IsLawful 
     -- Theorem: in order they are the least table, which has at most as many rows as the limit says.
     pub plain_table : (AreApart (map (plain_row value_of) table) → AreInOrder sorted) → IsPlainTable p program limit sorted
     plain_table in_order =
-        let is : IsLeastTable p program sorted = (settled, λ n h. record {
-          ordered = ordered p sorted (in_order apart);
-          sound = λ r i. (s.whole.least.1 n h).sound r (sound_row r i);
-          whole = λ x reaches. let (r, i, e) = (s.whole.least.1 n h).whole x reaches in (r, whole_row r i, e);
-        }) in
+        let is : IsLeastTable p program sorted = (
+          settled,
+          λ n h. record {
+            ordered = ordered p sorted (in_order apart);
+            sound = λ r i. (s.whole.least.1 n h).sound r (sound_row r i);
+            whole = λ x reaches. let (r, i, e) = (s.whole.least.1 n h).whole x reaches in (r, whole_row r i, e);
+          },
+        ) in
         let one : map (row_of p) sorted ≡ s.rows =
         same.least_unique (as_domain p) (as_program p program) (before p) (strict p) (map (row_of p) sorted) s.rows is s.whole.least in
         let long : length (map (row_of p) sorted) ≡ length sorted = length_map (row_of p) sorted in

@@ -6,3 +6,4 @@ pub mod Worked
 pub mod LeastRows
 pub mod Shown
 pub mod Kept
+pub mod Outcomes

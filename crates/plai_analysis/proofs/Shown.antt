@@ -1,9 +1,9 @@
 -- Rows of a table over a domain's own values beside the rows of patterns that they stand for.
 use Rattle.std.proofs.Common.{◌≡◌, ◌∙◌, ℕ, zero, suc, ◌+◌, Bool, List, [], ◌∷◌, ◌++◌, map, take, get_or, slice_get, unwrap_or, Option, Some, None, Bor}
-use Rattle.std.proofs.Common.{IfSome, sym, refl, ap, subst}
+use Rattle.std.proofs.Common.{IfSome, sym, refl, ap}
 use Rattle.std.proofs.lemmas.List.{take_more}
 use Rattle.std.proofs.lemmas.Option.{slice_get_within}
-use Rattle.std.specs.Option.{option_map, option_copied}
+use Rattle.std.specs.Option.{option_copied}
 use Rattle.plai_terms.specs.declared.abs.Abs.{Abs}
 use Rattle.plai_terms.specs.declared.abs.Abs.TheVariants.{Nothing}
 use Rattle.plai_terms.specs.declared.plain_row.PlainRow.{PlainRow}

@@ -10,7 +10,15 @@ keep_reachable-requires g c =
     }
 
 pub texts_of_table-requires : goal.texts_of_table-requires
-texts_of_table-requires g c = ?
+texts_of_table-requires g c = (
+  c.keep_reachable.new.arcs,
+  kept_table g.D.Domain.value_of (g.D.Domain.plain c.args.domain.now) c.args.program.now c.args.limit c.args.table.rows c.args.arcs c.requires
+      (g.met.D.Domain.lawful c.args.domain.now) (g.met.D.Domain.printed c.args.domain.now) c.is_program.ensures.well_formed
+      c.keep_reachable.new.table.rows c.keep_reachable.new.arcs c.in_ok-keep_reachable.ensures.ok,
+)
 
 pub returns-clause-kept : goal.returns-clause-kept
-returns-clause-kept g c = ?
+returns-clause-kept g c =
+    kept_table g.D.Domain.value_of (g.D.Domain.plain c.args.domain.now) c.args.program.now c.args.limit c.args.table.rows c.args.arcs c.requires
+    (g.met.D.Domain.lawful c.args.domain.now) (g.met.D.Domain.printed c.args.domain.now) c.is_program.ensures.well_formed
+    c.keep_reachable.new.table.rows c.keep_reachable.new.arcs c.in_ok-keep_reachable.ensures.ok

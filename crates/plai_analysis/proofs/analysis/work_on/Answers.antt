@@ -1,6 +1,4 @@
-use Rattle.std.proofs.Common.{◌-◌, Option, sym, subst, zero-le}
-use Rattle.plai_domain.specs.Plain.{PlainDomain}
-use Rattle.plai_rounds.specs.declared.analyse_fail.AnalyseFail.{AnalyseFail}
+use Rattle.std.proofs.Common.{◌-◌, sym, subst}
 use Rattle.plai_analysis.specs.Causes.{HasCause}
 use Rattle.plai_analysis.specs.Solved.{opened_rows}
 use Rattle.plai_analysis.specs.Work.{StopsFrom}
@@ -21,10 +19,34 @@ conclude-requires g c =
     }
 
 pub returns-in-Err-clause-causes : goal.returns-in-Err-clause-causes
-returns-in-Err-clause-causes g c = ?
+returns-in-Err-clause-causes g c =
+    let p = g.D.Domain.plain c.args.domain.now in
+    let opened = opened_rows g.D.Domain.value_of p c.args.program.now c.args.table.rows c.args.arcs in
+    subst (HasCause p c.args.program.now c.args.limit) (sym c.fail_of.ensures)
+    (cause p (g.met.D.Domain.lawful c.args.domain.now) c.args.program.now c.is_program.ensures.well_formed c.args.limit c.requires.start.0 opened
+    c.requires.start.1 (g.W.Work.entries c.args.work.now) (g.W.Work.entries c.solve.new.work) (c.solve.new.steps - c.args.steps.now) c.in-Err.fail
+    c.in-Err.ensures.stops)
 
 pub returns-in-Err-clause-stopped : goal.returns-in-Err-clause-stopped
-returns-in-Err-clause-stopped g c = ?
+returns-in-Err-clause-stopped g c =
+    let p = g.D.Domain.plain c.args.domain.now in
+    let opened = opened_rows g.D.Domain.value_of p c.args.program.now c.args.table.rows c.args.arcs in
+    λ was start. subst (StopsFrom p was c.args.program.now c.args.limit (g.W.Work.entries c.args.work.now) (g.W.Work.entries c.solve.new.work)
+    (c.solve.new.steps - c.args.steps.now)) (sym c.fail_of.ensures)
+    (stopped p was c.args.program.now c.args.limit opened (g.W.Work.entries c.args.work.now) (g.W.Work.entries c.solve.new.work)
+    (c.solve.new.steps - c.args.steps.now) c.in-Err.fail c.in-Err.ensures.stops start)
 
 pub returns : goal.returns
-returns g c = ?
+returns g c =
+    let p = g.D.Domain.plain c.args.domain.now in
+    let opened = opened_rows g.D.Domain.value_of p c.args.program.now c.args.table.rows c.args.arcs in
+    let h = c.in_default.ensures.solved in
+    record {
+      table = c.in_ok-analysed.ensures.table;
+      kept = c.in_ok-analysed.ensures.kept;
+      not_over = λ was start fine. not_over p (g.met.D.Domain.lawful c.args.domain.now) c.args.program.now c.is_program.ensures.well_formed c.args.limit was
+          opened start fine h.log h.is.whole h.is.fits;
+      causes = tt;
+      work = λ was start. (opened, start, record { log = h.log; is = h.is.whole; is_told = h.is_told; within = h.within });
+      stopped = tt;
+    }
