@@ -12,10 +12,10 @@ use Rattle.plai_eval.specs.Stops.{IsOver}
 use Rattle.plai_render.specs.declared.text_table.TextTable.{TextTable}
 use Rattle.plai_render.specs.Order.{IsNarrow}
 use Rattle.plai_render.specs.Texts.{AreTextsOf}
-use Rattle.plai_rounds.specs.Causes.{AreTooMany, IsOverThere}
 use Rattle.plai_rounds.specs.Table.{IsTextTable}
 use Rattle.plai_analysis.specs.declared.analysed.Analysed.{Analysed}
-use Rattle.plai_analysis.specs.Solved.{IsSolvedWork}
+use Rattle.plai_analysis.specs.Causes.{AreTooMany, IsOverThere}
+use Rattle.plai_analysis.specs.Kept.{IsKeptTable}
 use Rattle.plai_session.specs.declared.answer.EditAnswer.{EditAnswer}
 use Rattle.plai_session.specs.declared.answer.EditAnswer.TheVariants.{Table, Refused, StoppedRows, StoppedGroups}
 
@@ -52,12 +52,20 @@ AreRowsGiven p limit program table (Some rows) = (own : TextTable) × (table ≡
 abbrev pub texts_in : {V : Type 0} → Option (Analysed V) → Option TextTable
 texts_in analysed = option_map (λ a. a.texts) analysed
 
--- what a session keeps: a table that is there is the program's, and behind it stands work that has ended; there is none after
--- want of memory
+-- the program, where this of it is kept
+abbrev pub program_of : {T : Type 0} → ProgramView → Option T → Option ProgramView
+program_of program None = None
+program_of program (Some own) = Some program
+
+-- the program whose table a session keeps, from which its next edit is worked on
+abbrev pub kept_program : {D : Type 0} → SessionView D → Option ProgramView
+kept_program s = program_of s.program s.table
+
+-- what a session keeps: a table that is there is the program's, and table and arcs keep it; there is none after want of memory
 pub record IsKept {V : Type 0} (value_of : V → Abs) (p : PlainDomain) (limit : ℕ) (program : ProgramView) (analysed : Option (Analysed V)) (lost : Bool)
     : Type 0 where
   pub own : IfSome analysed (λ a. IsTableOf p limit program a.texts)
-  pub worked : IfSome analysed (λ a. IsSolvedWork value_of p program limit a.table.rows a.arcs)
+  pub worked : IfSome analysed (λ a. IsKeptTable value_of p program limit a.table.rows a.arcs)
   pub none_if_lost : lost ≡ true → analysed ≡ None
 
 -- what the analysis of a program gives: its table, or none and a stop by its cause
@@ -66,7 +74,7 @@ IsAnalysed p limit program table Table = (own : TextTable) × (table ≡ Some ow
 IsAnalysed p limit program table (Refused cause) = ⊥
 IsAnalysed p limit program table (StoppedRows most) = (table ≡ None) × (most ≡ limit) × AreTooMany p program limit
 IsAnalysed p limit program table (StoppedGroups row clause literal place) =
-    (table ≡ None) × IsOver p program × IsOverThere p program row clause literal place
+    (table ≡ None) × IsOver p program × IsOverThere p program limit row clause literal place
 
 -- what a session becomes where an edit makes this of its program: refused, it is as before; accepted, it has the program and
 -- what its analysis gives

@@ -1,5 +1,5 @@
 //! Sessions.
-ghost use Rattle.std.specs.Prelude.{◌≡◌, ◌⊎◌, ◌-◌, true, false, Ok, List, IfOk, IfSome, OnOk, OnErr, option_map};
+ghost use Rattle.std.specs.Prelude.{◌≡◌, ◌⊎◌, ◌-◌, true, false, None, Ok, List, IfOk, IfSome, OnOk, OnErr, option_map};
 ghost use Rattle.plai_terms.specs.declared.plain_row.PlainRow.{PlainRow};
 ghost use Rattle.plai_clauses.specs.Program.{ProgramView};
 ghost use Rattle.plai_assert.specs.Verdicts.{verdicts_of};
@@ -7,11 +7,11 @@ ghost use Rattle.plai_eval.specs.LeastTable.{IsLeastTable};
 ghost use Rattle.plai_script.specs.Edits.{edited};
 ghost use Rattle.plai_script.specs.Readable.{IsReadableEdit};
 ghost use Rattle.plai_session.specs.Work.{IsWorkOf, IsCutOff};
-ghost use Rattle.plai_session.specs.Sessions.{IsTableOf, AreRowsGiven, IsAnalysed, IsEdited, IsLost, IsRefusal};
+ghost use Rattle.plai_session.specs.Sessions.{IsTableOf, AreRowsGiven, IsAnalysed, IsEdited, IsLost, IsRefusal, kept_program};
 
-use crate::analysis::{Answered, analyse_anew};
+use crate::analysis::{Answered, analyse_edit};
 use crate::answer::EditAnswer;
-use plai_analysis::{Analysed, rows_of_work};
+use plai_analysis::{Analysed, rows_of_table};
 use plai_assert::Verdict;
 use plai_base::Steps;
 use plai_clauses::Program;
@@ -48,7 +48,7 @@ impl<D: Domain> Model for Session<D> {
 
 impl<D: Domain> Session<D> {
     /// Begins with a program and analyses it, as edit 0, with at most `limit` rows in the making: the work begins with
-    /// `Mark(0)`. It never answers `Refused`. There is no session after want of memory.
+    /// `Mark(0)` and no rows. It never answers `Refused`. There is no session after want of memory.
     pub fn open<W: Work, L: Ledger>(
         alloc: Global,
         domain: D,
@@ -59,11 +59,11 @@ impl<D: Domain> Session<D> {
     ) -> Result<(Session<D>, EditAnswer), AllocError>
         ensures begun { IfOk result (λ opened. (opened.0.domain ≡ domain) × (opened.0.limit ≡ limit) × (opened.0.program ≡ program) × (opened.0.lost ≡ false)) }
         ensures answer { IfOk result (λ opened. IsAnalysed (D.plain domain) limit program opened.0.table opened.1) }
-        ensures work { IfOk result (λ opened. IsWorkOf (D.plain domain) limit program 0 (W.entries work.old) (W.entries work.new) (steps.new - steps.old) opened.1) }
-        ensures cut_off { OnErr result (IsCutOff (D.plain domain) limit program 0 (W.entries work.old) (W.entries work.new)) }
+        ensures work { IfOk result (λ opened. IsWorkOf (D.plain domain) limit None program 0 (W.entries work.old) (W.entries work.new) (steps.new - steps.old) opened.1) }
+        ensures cut_off { OnErr result (IsCutOff (D.plain domain) limit None program 0 (W.entries work.old) (W.entries work.new)) }
     {
-        let Answered { analysed, answer } = analyse_anew(
-            alloc, &domain, &program, limit, 0, work, steps,
+        let Answered { analysed, answer } = analyse_edit(
+            alloc, &domain, &program, None, &program, limit, 0, work, steps,
         )?;
         let session = Session {
             domain,
@@ -80,6 +80,10 @@ impl<D: Domain> Session<D> {
     /// session has its table, or none after a stop. The terms in the edit are as those that were read: see
     /// [`read_edit`](plai_script::read_edit).
     ///
+    /// The work begins with the rows of the table before the edit that the edit leaves, dormant, with their answers, and with
+    /// no rows where there was no table. A quiet edit, which leaves the entries and the clauses of each predicate that has a row
+    /// in that table, takes no step, and nothing is noted behind its mark.
+    ///
     /// After want of memory the program is that from before the edit, there is no table, and every later edit answers want of
     /// memory.
     pub fn edit<W: Work, L: Ledger>(
@@ -95,9 +99,9 @@ impl<D: Domain> Session<D> {
         ensures memory { OnErr result (IsLost self.old self.new) }
         ensures lost { self.old.lost ≡ true → OnOk result ⊥ }
         ensures work { IfOk result (λ answer. (program : ProgramView) → edited self.old.program edit.now ≡ Ok program
-            → IsWorkOf (D.plain self.old.domain) self.old.limit program number (W.entries work.old) (W.entries work.new) (steps.new - steps.old) answer) }
+            → IsWorkOf (D.plain self.old.domain) self.old.limit (kept_program self.old) program number (W.entries work.old) (W.entries work.new) (steps.new - steps.old) answer) }
         ensures cut_off { OnErr result ((W.entries work.new ≡ W.entries work.old) ⊎ ((program : ProgramView) × (edited self.old.program edit.now ≡ Ok program)
-            × IsCutOff (D.plain self.old.domain) self.old.limit program number (W.entries work.old) (W.entries work.new))) }
+            × IsCutOff (D.plain self.old.domain) self.old.limit (kept_program self.old) program number (W.entries work.old) (W.entries work.new))) }
         ensures noted { IfOk result (λ answer. IsRefusal answer → W.entries work.new ≡ W.entries work.old) }
         ensures steps { IfOk result (λ answer. IsRefusal answer → steps.new ≡ steps.old) }
     {
@@ -114,7 +118,7 @@ impl<D: Domain> Session<D> {
         }
     }
 
-    /// Puts the program in the place of the present one, with what its analysis gives.
+    /// Puts the program in the place of the present one, with what its analysis gives, which takes what is kept of the one before.
     fn take_over<W: Work, L: Ledger>(
         &mut self,
         alloc: Global,
@@ -126,13 +130,16 @@ impl<D: Domain> Session<D> {
         requires { self.old.lost ≡ false }
         ensures answer { IfOk result (λ answer. (self.new.program ≡ program) × (self.new.domain ≡ self.old.domain) × (self.new.limit ≡ self.old.limit) × (self.new.lost ≡ false)
             × IsAnalysed (D.plain self.old.domain) self.old.limit program self.new.table answer) }
-        ensures work { IfOk result (IsWorkOf (D.plain self.old.domain) self.old.limit program number (W.entries work.old) (W.entries work.new) (steps.new - steps.old)) }
-        ensures cut_off { OnErr result (IsCutOff (D.plain self.old.domain) self.old.limit program number (W.entries work.old) (W.entries work.new)) }
+        ensures work { IfOk result (IsWorkOf (D.plain self.old.domain) self.old.limit (kept_program self.old) program number (W.entries work.old) (W.entries work.new) (steps.new - steps.old)) }
+        ensures cut_off { OnErr result (IsCutOff (D.plain self.old.domain) self.old.limit (kept_program self.old) program number (W.entries work.old) (W.entries work.new)) }
         ensures memory { OnErr result (IsLost self.old self.new) }
     {
-        match analyse_anew(
+        let kept = self.analysed.take();
+        match analyse_edit(
             alloc,
             &self.domain,
+            &self.program,
+            kept,
             &program,
             self.limit,
             number,
@@ -186,12 +193,11 @@ impl<D: Domain> Session<D> {
     {
         match &self.analysed {
             Some(analysed) => {
-                let rows = rows_of_work(
+                let rows = rows_of_table(
                     alloc,
                     &self.domain,
                     &self.program,
                     &analysed.table,
-                    &analysed.arcs,
                     self.limit,
                 )?;
                 Ok(Some(rows))
