@@ -13,13 +13,13 @@ use Rattle.plai_clauses.specs.Program.{ProgramView}
 use Rattle.plai_clauses.specs.WellFormed.{IsWellFormed}
 use Rattle.plai_clauses.specs.declared.edit_cause.EditCause.{EditCause}
 use Rattle.plai_top.specs.Blocks.{Block, table, refused, stopped, text_of, texts_from, is_table, IsBlockOf, AreBlocksOf, no_more, one_more, IsTextOfFirst}
-use Rattle.plai_top.specs.Working.{Span, IsIdle, AreJoined, IsWorked, AreWorked, none_worked, IsLastWorked, is_unwritten, AllWorked, FirstWorked}
+use Rattle.plai_top.specs.Working.{Span, kept_by, kept_behind_all, IsIdle, AreJoined, IsWorked, AreWorked, none_worked, IsLastWorked, is_unwritten, AllWorked, FirstWorked}
 use Rattle.plai_top.specs.Writing.{WritesBlock, AreFormed, Wrote, WritesBlocks}
 use Rattle.plai_top.specs.declared.form.Form.{Form}
 use Rattle.plai_top.specs.declared.form.Form.TheVariants.{Tables, Counts}
 use Rattle.plai_top.specs.declared.stop.Stop.{Stop}
 use Rattle.plai_top.specs.declared.stop.Stop.TheVariants.{WriteFault}
-use Rattle.plai_top.proofs.Spans.{worked_more}
+use Rattle.plai_top.proofs.Spans.{worked_more, kept_more}
 
 -- ---- bytes
 
@@ -102,7 +102,7 @@ module _ (p : PlainDomain) (limit : ℕ) where
   one_alone g b is = one_more g b [] [] is no_more
 
   module _ (form : Form) (givens : List (Result ProgramView EditCause)) (before : Option (List ℕ)) where
-    pub nothing_written : Appends before before [] → (span : Span) → IsIdle span → Wrote form p limit givens before before span givens 0 true
+    pub nothing_written : Appends before before [] → (span : Span) → IsIdle span → Wrote form p limit givens before before span givens None 0 true
     nothing_written none span idle = record {
       earlier = [];
       written = [];
@@ -113,16 +113,18 @@ module _ (p : PlainDomain) (limit : ℕ) where
           All-nil (λ given. IfOk given IsWellFormed);
       count = refl;
       tables = refl;
-      worked = none_worked 0 span idle;
+      worked = none_worked None 0 span idle;
+      keeps = refl;
     }
 
-    module _ (now : Option (List ℕ)) (span : Span) (given : Result ProgramView EditCause) (left : List (Result ProgramView EditCause)) (number : ℕ)
-        (are_tables : Bool) (wrote : Wrote form p limit givens before now span (given ∷ left) number are_tables) where
+    module _ (now : Option (List ℕ)) (span : Span) (given : Result ProgramView EditCause) (left : List (Result ProgramView EditCause))
+        (was : Option ProgramView) (number : ℕ) (are_tables : Bool) (wrote : Wrote form p limit givens before now span (given ∷ left) was number are_tables) where
       -- one block more
       pub wrote_more : IfOk given IsWellFormed → (next : Option (List ℕ)) (last whole : Span) (shows : Bool)
-          → WritesBlock form p limit number given last now next (Ok shows) → AreJoined span last whole
-          → Wrote form p limit givens before next whole left (number + 1) (are_tables && shows)
-      wrote_more own_form next last whole shows (text, is, took) joined = record {
+          → WritesBlock form p limit was number given last now next (Ok shows) → AreJoined span last whole
+          → (keeps : Option ProgramView) → keeps ≡ kept_by was given shows
+          → Wrote form p limit givens before next whole left keeps (number + 1) (are_tables && shows)
+      wrote_more own_form next last whole shows (text, is, took) joined keeps same = record {
         earlier = wrote.earlier ++ given ∷ [];
         written = wrote.written ++ is.own.block ∷ [];
         parts = wrote.parts ∙ sym (append_assoc wrote.earlier (given ∷ []) left);
@@ -139,8 +141,12 @@ module _ (p : PlainDomain) (limit : ℕ) where
             ∙ sym (list_all-append is_table wrote.written (is.own.block ∷ []));
         worked =
             let e : number ≡ 0 + length wrote.written = omega (arith, wrote.count) in
-            worked_more p limit 0 wrote.earlier wrote.written span wrote.worked given is.own.block last
-            (subst (λ n. IsWorked p limit n given is.own.block last) e is.own.worked) whole joined;
+            let own : IsWorked p limit (kept_behind_all None wrote.earlier wrote.written) number given is.own.block last =
+            subst (λ w. IsWorked p limit w number given is.own.block last) (sym wrote.keeps) is.own.worked in
+            worked_more p limit None 0 wrote.earlier wrote.written span wrote.worked given is.own.block last
+            (subst (λ n. IsWorked p limit (kept_behind_all None wrote.earlier wrote.written) n given is.own.block last) e own) whole joined;
+        keeps = kept_more p limit None 0 wrote.earlier wrote.written span wrote.worked given is.own.block
+            ∙ ap (λ w. kept_by w given (is_table is.own.block)) wrote.keeps ∙ ap (kept_by was given) is.own.shows ∙ sym same;
       }
         where
           alone : (b : Block) (s : Bool) → is_table b ≡ s → list_all is_table (b ∷ []) ≡ s
@@ -175,7 +181,7 @@ module _ (p : PlainDomain) (limit : ℕ) where
           )
 
       stopped_behind : (next : Option (List ℕ)) (last whole : Span) (text : List ℕ) → AreJoined span last whole
-          → IsLastWorked form p limit number given last text → Appends now next text → FirstWorked form p limit givens before next whole
+          → IsLastWorked form p limit was number given last text → Appends now next text → FirstWorked form p limit givens before next whole
       stopped_behind next last whole text joined worked took = record {
         first = wrote.earlier;
         next = given;
@@ -187,12 +193,13 @@ module _ (p : PlainDomain) (limit : ℕ) where
         worked = wrote.worked;
         last = last;
         text = text;
-        last_worked = subst (λ n. IsLastWorked form p limit n given last text) (sym wrote.count) worked;
+        last_worked = subst (λ n. IsLastWorked form p limit (kept_behind_all None wrote.earlier wrote.written) n given last text) (sym wrote.count)
+            (subst (λ w. IsLastWorked form p limit w number given last text) (sym wrote.keeps) worked);
         joined = joined;
         bytes = appends_then before now next (texts_from form 0 wrote.written) text wrote.bytes took;
       }
 
-      pub wrote_stops : (next : Option (List ℕ)) (last : Span) (stop : Stop) → WritesBlock form p limit number given last now next (Err stop)
+      pub wrote_stops : (next : Option (List ℕ)) (last : Span) (stop : Stop) → WritesBlock form p limit was number given last now next (Err stop)
           → WritesBlocks form p limit givens before next (Err stop)
       wrote_stops next last stop (inl (memory, same, worked)) =
           let head : List ℕ = texts_from form 0 wrote.written in
@@ -205,7 +212,7 @@ module _ (p : PlainDomain) (limit : ℕ) where
           cut_within next stop fault is.own.block is.own.is_block n (subst (λ l. Appends now next (take n l)) is.is_text took)
 
       -- the work of blocks that were not all written
-      pub works_stop : (next : Option (List ℕ)) (last whole : Span) (stop : Stop) → WritesBlock form p limit number given last now next (Err stop)
+      pub works_stop : (next : Option (List ℕ)) (last whole : Span) (stop : Stop) → WritesBlock form p limit was number given last now next (Err stop)
           → AreJoined span last whole → FirstWorked form p limit givens before next whole
       works_stop next last whole stop (inl (memory, same, worked)) joined =
           stopped_behind next last whole [] joined worked (kept_appends now next same)
@@ -225,25 +232,25 @@ module _ (p : PlainDomain) (limit : ℕ) where
           (rest, texts_behind form is.blocks tail ∙ ap (λ l. l ++ rest) (sym is.is_text)),
         )
 
-    module _ (now : Option (List ℕ)) (span : Span) (number : ℕ) (are_tables : Bool) (wrote : Wrote form p limit givens before now span [] number are_tables)
-      where
-        all_parts : givens ≡ wrote.earlier
-        all_parts = wrote.parts ∙ append-nil wrote.earlier
+    module _ (now : Option (List ℕ)) (span : Span) (was : Option ProgramView) (number : ℕ) (are_tables : Bool)
+        (wrote : Wrote form p limit givens before now span [] was number are_tables) where
+      all_parts : givens ≡ wrote.earlier
+      all_parts = wrote.parts ∙ append-nil wrote.earlier
 
-        pub wrote_all : WritesBlocks form p limit givens before now (Ok (cond are_tables 0 1))
-        wrote_all = record {
-          blocks = wrote.written;
-          are = subst (λ gs. AreBlocksOf p limit gs wrote.written) (sym all_parts) wrote.are;
-          formed = subst AreFormed (sym all_parts) wrote.formed;
-          is_status = ap (λ b. cond b 0 1) wrote.tables;
-          bytes = wrote.bytes;
-        }
+      pub wrote_all : WritesBlocks form p limit givens before now (Ok (cond are_tables 0 1))
+      wrote_all = record {
+        blocks = wrote.written;
+        are = subst (λ gs. AreBlocksOf p limit gs wrote.written) (sym all_parts) wrote.are;
+        formed = subst AreFormed (sym all_parts) wrote.formed;
+        is_status = ap (λ b. cond b 0 1) wrote.tables;
+        bytes = wrote.bytes;
+      }
 
-        pub works_all : AllWorked form p limit givens before now span (cond are_tables 0 1)
-        works_all = record {
-          blocks = wrote.written;
-          are = subst (λ gs. AreBlocksOf p limit gs wrote.written) (sym all_parts) wrote.are;
-          is_status = ap (λ b. cond b 0 1) wrote.tables;
-          bytes = wrote.bytes;
-          worked = subst (λ gs. AreWorked p limit 0 gs wrote.written span) (sym all_parts) wrote.worked;
-        }
+      pub works_all : AllWorked form p limit givens before now span (cond are_tables 0 1)
+      works_all = record {
+        blocks = wrote.written;
+        are = subst (λ gs. AreBlocksOf p limit gs wrote.written) (sym all_parts) wrote.are;
+        is_status = ap (λ b. cond b 0 1) wrote.tables;
+        bytes = wrote.bytes;
+        worked = subst (λ gs. AreWorked p limit None 0 gs wrote.written span) (sym all_parts) wrote.worked;
+      }

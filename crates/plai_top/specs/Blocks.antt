@@ -16,7 +16,7 @@ use Rattle.plai_render.specs.Refused.{refused_text}
 use Rattle.plai_render.specs.Stopped.{stopped_text}
 use Rattle.plai_render.specs.Texts as texts
 use Rattle.plai_render.specs.declared.text_row.TextRow.{TextRow}
-use Rattle.plai_rounds.specs.Causes.{AreTooMany}
+use Rattle.plai_analysis.specs.Causes.{AreTooMany}
 use Rattle.plai_top.specs.declared.form.Form.{Form}
 use Rattle.plai_top.specs.declared.form.Form.TheVariants.{Tables, Counts}
 

@@ -7,11 +7,12 @@ ghost use Rattle.plai_clauses.specs.WellFormed.{IsWellFormed};
 ghost use Rattle.plai_clauses.specs.declared.edit_cause.EditCause.{EditCause};
 ghost use Rattle.plai_render.specs.declared.text_table.TextTable.{TextTable};
 ghost use Rattle.plai_session.specs.Programs.{judged, kept, behind};
+ghost use Rattle.plai_session.specs.Sessions.{kept_program};
 ghost use Rattle.plai_script.specs.Readable.{IsReadableEdit};
 ghost use Rattle.plai_top.specs.Blocks.{rows_text};
 ghost use Rattle.plai_top.specs.Scripts.{AreReadable};
 ghost use Rattle.plai_top.specs.Plans.{IsPlanStop};
-ghost use Rattle.plai_top.specs.Working.{Span, between, WorksBlocks};
+ghost use Rattle.plai_top.specs.Working.{Span, between, kept_by, WorksBlocks};
 ghost use Rattle.plai_top.specs.Writing.{WritesText, IsAnswerFor, IsBlockText, WritesBlock, WritesRefused, Wrote, WritesBlocks, shows_table};
 
 use crate::form::Form;
@@ -70,9 +71,9 @@ fn render_answer<D: Domain>(
     text: &mut Vec<u8>,
 ) -> Result<(), AllocError>
     requires { text.old.items ≡ [] }
-    ensures { OnOk result ((given : Result ProgramView EditCause) (span : Span)
-        → IsAnswerFor (D.plain session.now.domain) session.now.limit number session.now.program session.now.table answer.now span given
-        → IsBlockText form (D.plain session.now.domain) session.now.limit number given span text.new.items (shows_table answer.now)) }
+    ensures { OnOk result ((was : Option ProgramView) (given : Result ProgramView EditCause) (span : Span)
+        → IsAnswerFor (D.plain session.now.domain) session.now.limit was number session.now.program session.now.table answer.now span given
+        → IsBlockText form (D.plain session.now.domain) session.now.limit was number given span text.new.items (shows_table answer.now)) }
 {
     match answer {
         EditAnswer::Table => render_own(alloc, form, number, session, text),
@@ -90,9 +91,9 @@ fn block_text<D: Domain>(
     session: &Session<D>,
     answer: &EditAnswer,
 ) -> Result<Vec<u8>, AllocError>
-    ensures { IfOk result (λ text. (given : Result ProgramView EditCause) (span : Span)
-        → IsAnswerFor (D.plain session.now.domain) session.now.limit number session.now.program session.now.table answer.now span given
-        → IsBlockText form (D.plain session.now.domain) session.now.limit number given span text.items (shows_table answer.now)) }
+    ensures { IfOk result (λ text. (was : Option ProgramView) (given : Result ProgramView EditCause) (span : Span)
+        → IsAnswerFor (D.plain session.now.domain) session.now.limit was number session.now.program session.now.table answer.now span given
+        → IsBlockText form (D.plain session.now.domain) session.now.limit was number given span text.items (shows_table answer.now)) }
 {
     let mut text = Vec::new(alloc);
     render_answer(alloc, form, number, session, answer, &mut text)?;
@@ -120,9 +121,10 @@ fn write_answer<D: Domain, K: Sink>(
     answer: &EditAnswer,
     sink: &mut K,
 ) -> Result<bool, Stop>
-    ensures block { (given : Result ProgramView EditCause) (span : Span)
-        → IsAnswerFor (D.plain session.now.domain) session.now.limit number session.now.program session.now.table answer.now span given
-        → WritesBlock form (D.plain session.now.domain) session.now.limit number given span (K.taken sink.old) (K.taken sink.new) result }
+    ensures block { (was : Option ProgramView) (given : Result ProgramView EditCause) (span : Span)
+        → IsAnswerFor (D.plain session.now.domain) session.now.limit was number session.now.program session.now.table answer.now span given
+        → WritesBlock form (D.plain session.now.domain) session.now.limit was number given span (K.taken sink.old) (K.taken sink.new) result }
+    ensures shows { IfOk result (λ shows. shows ≡ shows_table answer.now) }
     ensures stop { IfErr result IsPlanStop }
     ensures later { K.faults sink.old ≤ K.faults sink.new }
     ensures failed { IsErrOf result Stop.WriteFault → Rose (K.faults sink.old) (K.faults sink.new) }
@@ -171,10 +173,11 @@ fn write_item<D: Domain, K: Sink, W: Work, L: Ledger>(
     steps: &mut Steps<L>,
 ) -> Result<bool, Stop>
     requires { IfOk item.now IsReadableEdit }
-    ensures block { WritesBlock form (D.plain session.old.domain) session.old.limit number (judged session.old.program item.now)
+    ensures block { WritesBlock form (D.plain session.old.domain) session.old.limit (kept_program session.old) number (judged session.old.program item.now)
         (between (W.entries work.old) (W.entries work.new) steps.old steps.new) (K.taken sink.old) (K.taken sink.new) result }
     ensures formed { OnOk result (IsWellFormed session.new.program) }
     ensures program { OnOk result (session.new.program ≡ kept session.old.program (judged session.old.program item.now)) }
+    ensures keeps { IfOk result (λ shows. kept_program session.new ≡ kept_by (kept_program session.old) (judged session.old.program item.now) shows) }
     ensures stop { IfErr result IsPlanStop }
     ensures same { OnOk result ((session.new.domain ≡ session.old.domain) × (session.new.limit ≡ session.old.limit)) }
     ensures later { K.faults sink.old ≤ K.faults sink.new }
@@ -222,7 +225,7 @@ fn write_items<D: Domain, K: Sink, W: Work, L: Ledger>(
     requires { AreReadable items.now }
     ensures blocks { (givens : List (Result ProgramView EditCause)) (before : Option (List ℕ)) (begun : Option (List WorkEntry)) (counted : ℕ)
         → Wrote form (D.plain session.domain) session.limit givens before (K.taken sink.old) (between begun (W.entries work.old) counted steps.old)
-        (behind session.program items.now) 1 is_table
+        (behind session.program items.now) (kept_program session) 1 is_table
         → WritesBlocks form (D.plain session.domain) session.limit givens before (K.taken sink.new) result
         × WorksBlocks form (D.plain session.domain) session.limit givens before (K.taken sink.new)
         (between begun (W.entries work.new) counted steps.new) result }

@@ -10,7 +10,8 @@ returns-in-Ok-write_answer-clause-blocks g c =
     (g.K.Sink.taken c.write_answer.new.sink) (g.W.Work.entries c.args.work.now) (g.W.Work.entries c.open.new.work) c.args.steps.now c.open.new.steps
     c.args.domain c.args.limit c.args.program own most has c.in-Ok.ensures.answer c.in-Ok.ensures.work c.is_program.ensures.well_formed
     (g.K.Sink.taken c.write_items.new.sink) (g.W.Work.entries c.write_items.new.work) c.write_items.new.steps
-    c.in-Ok-write_answer.is_table c.write_items.result c.in-Ok-write_answer.ensures.block c.write_items.ensures.blocks).0
+    c.in-Ok-write_answer.is_table c.write_items.result c.in-Ok-write_answer.ensures.block c.in-Ok-write_answer.ensures.shows
+    c.write_items.ensures.blocks).0
 
 pub returns-in-Err-write_answer-clause-blocks : goal.returns-in-Err-write_answer-clause-blocks
 returns-in-Err-write_answer-clause-blocks g c =
@@ -33,7 +34,8 @@ returns-in-Ok-write_answer-clause-worked g c =
     (g.K.Sink.taken c.write_answer.new.sink) (g.W.Work.entries c.args.work.now) (g.W.Work.entries c.open.new.work) c.args.steps.now c.open.new.steps
     c.args.domain c.args.limit c.args.program own most has c.in-Ok.ensures.answer c.in-Ok.ensures.work c.is_program.ensures.well_formed
     (g.K.Sink.taken c.write_items.new.sink) (g.W.Work.entries c.write_items.new.work) c.write_items.new.steps
-    c.in-Ok-write_answer.is_table c.write_items.result c.in-Ok-write_answer.ensures.block c.write_items.ensures.blocks).1
+    c.in-Ok-write_answer.is_table c.write_items.result c.in-Ok-write_answer.ensures.block c.in-Ok-write_answer.ensures.shows
+    c.write_items.ensures.blocks).1
 
 pub returns-in-Err-write_answer-clause-worked : goal.returns-in-Err-write_answer-clause-worked
 returns-in-Err-write_answer-clause-worked g c =

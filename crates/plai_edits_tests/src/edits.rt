@@ -1,0 +1,141 @@
+// A session under a script of edits, beside the analysis anew of each program.
+ghost use Rattle.std.specs.Prelude.{◌≡◌, ◌<◌};
+
+use crate::draws::{Draws, PROGRAM};
+use plai_base::Steps;
+use plai_clauses::Program;
+use plai_domain::{Domain, Tally, Work};
+use plai_modules::{NamedText, Text, load};
+use plai_rounds::AnalyseFail;
+use plai_script::read_script;
+use plai_session::{EditAnswer, Session};
+use plai_terms::Listed;
+use std::alloc::Global;
+use std::marker::Brand;
+use std::sync::ledger::{Blank, Ledger};
+use std::test::Fail;
+
+/// The program of a file, at most a million bytes.
+pub(crate) fn loaded(alloc: Global, text: &str) -> Result<Program, Fail> {
+    if text.len() > 1_000_000 {
+        return Err(Fail::new("a long file"));
+    }
+    let file = NamedText {
+        name: Text::new(String::from_str(alloc, "a.pl")?),
+        text: Listed::new(Vec::from_slice(alloc, text.as_bytes())?),
+    };
+    Ok(load(alloc, [file].as_slice())?)
+}
+
+/// Carries out the one edit of the text, at most 1,000 bytes, and says whether it was accepted.
+pub(crate) fn carry_out<D: Domain, W: Work, L: Ledger>(
+    alloc: Global,
+    number: u64,
+    text: &str,
+    session: &mut Session<D>,
+    work: &mut W,
+    steps: &mut Steps<L>,
+) -> Result<bool, Fail> {
+    if text.len() > 1_000 {
+        return Err(Fail::new("a long edit"));
+    }
+    let items = read_script(alloc, text.as_bytes())?;
+    let mut accepted = false;
+    for item in items.as_slice() {
+        match item {
+            Ok(edit) => match session.edit(alloc, number, edit, work, steps)? {
+                EditAnswer::Refused(_) => {}
+                EditAnswer::Table => accepted = session.table().is_some(),
+                _ => accepted = session.table().is_none(),
+            },
+            Err(_) => return Err(Fail::new("no edit")),
+        }
+    }
+    Ok(accepted)
+}
+
+/// Whether the session's table is that of its program's analysis anew, or neither has one. They may differ where one of them
+/// alone meets the limit of rows.
+fn is_as_anew<D: Domain, L: Ledger>(
+    alloc: Global,
+    domain: &D,
+    limit: u64,
+    session: &Session<D>,
+    steps: &mut Steps<L>,
+) -> Result<bool, Fail> {
+    let anew = plai_analysis::analyse(
+        alloc,
+        domain,
+        session.program(),
+        limit,
+        &mut Tally::new(),
+        steps,
+    );
+    match (session.table(), anew) {
+        (Some(own), Ok(anew)) => {
+            let own = format!(in alloc; "{:?}", own)?;
+            let anew = format!(in alloc; "{:?}", anew.texts)?;
+            if own.as_bytes() == anew.as_bytes() {
+                return Ok(true);
+            }
+            Err(Fail::new("another table"))
+        }
+        (None, Err(AnalyseFail::Rows(_))) => Ok(true),
+        (_, Err(AnalyseFail::Memory)) => Err(Fail::new("no memory")),
+        (_, Err(AnalyseFail::Groups { .. })) => Err(Fail::new("too many groups")),
+        _ => Ok(false),
+    }
+}
+
+/// Carries out so many edits, and counts those behind which the session differs from the analysis anew by a stop.
+fn script_counted<D: Domain, L: Ledger>(
+    alloc: Global,
+    domain: D,
+    other: &D,
+    limit: u64,
+    seed: u64,
+    blank: Blank,
+) -> Result<u64, Fail>
+    requires name { blank.name ≡ L.name }
+    requires parts { blank.parts ≡ L.parts }
+    requires some { 0 < blank.parts }
+{
+    let mut steps = Steps::<L>::new(blank);
+    let mut draws = Draws::new(seed);
+    let program = loaded(alloc, PROGRAM)?;
+    let (mut session, _) = Session::open(
+        alloc,
+        domain,
+        program,
+        limit,
+        &mut Tally::new(),
+        &mut steps,
+    )?;
+    let mut differ: u64 = 0;
+    for number in 1..201_u64 {
+        let text = draws.edit()?;
+        let accepted = carry_out(
+            alloc,
+            number,
+            text,
+            &mut session,
+            &mut Tally::new(),
+            &mut steps,
+        )?;
+        if accepted && !is_as_anew(alloc, other, limit, &session, &mut steps)? {
+            differ = differ.saturating_add(1);
+        }
+    }
+    Ok(differ)
+}
+
+/// So many of 200 edits.
+pub(crate) fn script<D: Domain>(
+    alloc: Global,
+    domain: D,
+    other: &D,
+    limit: u64,
+    seed: u64,
+) -> Result<u64, Fail> {
+    script_counted::<D, Brand>(alloc, domain, other, limit, seed, Blank::new(1))
+}
