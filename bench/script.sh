@@ -4,7 +4,7 @@
 # 200 edits: of a run with the edits less a run with none, the shortest of three.
 #   refused   `all` of a clause for a predicate of its own and of an edit that is refused: reading and applying, no analysis
 #   largest   the same with a clause for the largest predicate
-#   accepted  a clause for a predicate that no entry reaches: reading, applying, and an analysis from nothing
+#   accepted  a clause for a predicate that no entry reaches, a quiet edit: reading, applying, and a look at each row's clauses
 #   changed   in turn a clause added to the largest predicate and its first one taken away, as `accepted`
 # Prints how many times each grew from the line before of the same shape, where that was at least 1 us. PLAI names another program than ./plai.
 set -eu
