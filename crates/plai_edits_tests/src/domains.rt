@@ -7,41 +7,45 @@ use plai_share::ShareFree;
 use std::process::Abort;
 use std::test::Fail;
 
-/// Nothing stops any of the 200 edits where there is room.
+/// Nothing stops any edit where there is room.
 const ROOM: u64 = 10_000;
 
 #[test]
 fn each_table_is_as_anew_under_groundness(rt: HostRuntime) -> Result<(), Fail> {
-    for seed in 0..4_u64 {
-        let differ = script(rt.alloc(), Ground::new(), &Ground::new(), ROOM, seed)?;
-        assert_eq!(rt; differ, 0, "{seed}");
-    }
+    let counts = script(rt.alloc(), Ground::new(), &Ground::new(), ROOM, 1, 200)?;
+    assert_eq!(rt; counts.differ, 0);
+    assert!(rt; counts.full >= 100, "{}", counts.full);
     Ok(())
 }
 
 #[test]
 fn each_table_is_as_anew_under_sharing(rt: HostRuntime) -> Result<(), Fail> {
-    for seed in 0..4_u64 {
-        let differ = script(rt.alloc(), ShareFree::new(), &ShareFree::new(), ROOM, seed)?;
-        assert_eq!(rt; differ, 0, "{seed}");
-    }
+    let counts = script(
+        rt.alloc(),
+        ShareFree::new(),
+        &ShareFree::new(),
+        ROOM,
+        1,
+        200,
+    )?;
+    assert_eq!(rt; counts.differ, 0);
+    assert!(rt; counts.full >= 100, "{}", counts.full);
     Ok(())
 }
 
 #[test]
 fn each_table_is_as_anew_under_depth(rt: HostRuntime) -> Result<(), Fail> {
-    for seed in 0..4_u64 {
-        let differ = script(rt.alloc(), DepthK::new(2), &DepthK::new(2), ROOM, seed)?;
-        assert_eq!(rt; differ, 0, "{seed}");
-    }
+    let counts = script(rt.alloc(), DepthK::new(2), &DepthK::new(2), ROOM, 1, 200)?;
+    assert_eq!(rt; counts.differ, 0);
+    assert!(rt; counts.full >= 100, "{}", counts.full);
     Ok(())
 }
 
 #[test]
 fn stops_seldom_differ_under_groundness(rt: HostRuntime) -> Result<(), Fail> {
     for limit in 3..8_u64 {
-        let differ = script(rt.alloc(), Ground::new(), &Ground::new(), limit, limit)?;
-        assert!(rt; differ <= 20, "{limit} {differ}");
+        let counts = script(rt.alloc(), Ground::new(), &Ground::new(), limit, limit, 40)?;
+        assert!(rt; counts.differ <= 8, "{limit} {}", counts.differ);
     }
     Ok(())
 }
@@ -49,14 +53,15 @@ fn stops_seldom_differ_under_groundness(rt: HostRuntime) -> Result<(), Fail> {
 #[test]
 fn stops_seldom_differ_under_sharing(rt: HostRuntime) -> Result<(), Fail> {
     for limit in 3..8_u64 {
-        let differ = script(
+        let counts = script(
             rt.alloc(),
             ShareFree::new(),
             &ShareFree::new(),
             limit,
             limit,
+            40,
         )?;
-        assert!(rt; differ <= 20, "{limit} {differ}");
+        assert!(rt; counts.differ <= 8, "{limit} {}", counts.differ);
     }
     Ok(())
 }
@@ -64,8 +69,15 @@ fn stops_seldom_differ_under_sharing(rt: HostRuntime) -> Result<(), Fail> {
 #[test]
 fn stops_seldom_differ_under_depth(rt: HostRuntime) -> Result<(), Fail> {
     for limit in 3..8_u64 {
-        let differ = script(rt.alloc(), DepthK::new(2), &DepthK::new(2), limit, limit)?;
-        assert!(rt; differ <= 20, "{limit} {differ}");
+        let counts = script(
+            rt.alloc(),
+            DepthK::new(2),
+            &DepthK::new(2),
+            limit,
+            limit,
+            40,
+        )?;
+        assert!(rt; counts.differ <= 8, "{limit} {}", counts.differ);
     }
     Ok(())
 }

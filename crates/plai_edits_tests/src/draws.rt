@@ -10,7 +10,7 @@ s(X,Y) :- r(Y,X), u.
 t(1). t(X) :- u, s(X,X).
 u.";
 
-const EDITS: [&str; 48] = [
+const EDITS: [&str; 64] = [
     "add(m,p(b)).",
     "add(m,(p(X):-q(X),t(X))).",
     "add(m,(p(X):-s(X,_))).",
@@ -59,6 +59,22 @@ const EDITS: [&str; 48] = [
     "unentry(m,1).",
     "unentry(m,2).",
     "unentry(m,3).",
+    "del(m,p/1,1).",
+    "del(m,p/1,2).",
+    "del(m,q/1,1).",
+    "del(m,q/1,2).",
+    "del(m,r/2,1).",
+    "del(m,r/2,2).",
+    "del(m,s/2,1).",
+    "del(m,s/2,3).",
+    "del(m,t/1,1).",
+    "del(m,u/0,1).",
+    "drop(m,p/1).",
+    "drop(m,r/2).",
+    "drop(m,s/2).",
+    "drop(m,u/0).",
+    "entry(m,s(X,Y)).",
+    "unentry(m,4).",
 ];
 
 /// Draws from a seed on.
@@ -78,7 +94,7 @@ impl Draws {
             .state
             .wrapping_mul(6_364_136_223_846_793_005)
             .wrapping_add(1_442_695_040_888_963_407);
-        let place = (self.state >> 33) % 48;
+        let place = (self.state >> 33) % 64;
         match EDITS.get(place as usize) {
             Some(edit) => Ok(*edit),
             None => Err(Fail::new("no edit")),

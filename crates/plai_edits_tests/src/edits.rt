@@ -31,7 +31,7 @@ pub(crate) fn loaded(alloc: Global, text: &str) -> Result<Program, Fail> {
 pub(crate) fn carry_out<D: Domain, W: Work, L: Ledger>(
     alloc: Global,
     number: u64,
-    text: &str,
+    text: &[u8],
     session: &mut Session<D>,
     work: &mut W,
     steps: &mut Steps<L>,
@@ -39,7 +39,7 @@ pub(crate) fn carry_out<D: Domain, W: Work, L: Ledger>(
     if text.len() > 1_000 {
         return Err(Fail::new("a long edit"));
     }
-    let items = read_script(alloc, text.as_bytes())?;
+    let items = read_script(alloc, text)?;
     let mut accepted = false;
     for item in items.as_slice() {
         match item {
@@ -87,15 +87,32 @@ fn is_as_anew<D: Domain, L: Ledger>(
     }
 }
 
-/// Carries out so many edits, and counts those behind which the session differs from the analysis anew by a stop.
+/// What was counted behind edits that were accepted.
+#[derive(Drop)]
+pub(crate) struct Counts {
+    /// How often the session differed from the analysis anew by a stop.
+    pub(crate) differ: u64,
+    /// How often the table had three rows or more.
+    pub(crate) full: u64,
+}
+
+fn is_full<D: Domain>(session: &Session<D>) -> bool {
+    match session.table() {
+        Some(table) => table.rows.as_slice().len() >= 3,
+        None => false,
+    }
+}
+
+/// Carries out so many edits, and counts behind those that are accepted.
 fn script_counted<D: Domain, L: Ledger>(
     alloc: Global,
     domain: D,
     other: &D,
     limit: u64,
     seed: u64,
+    count: u64,
     blank: Blank,
-) -> Result<u64, Fail>
+) -> Result<Counts, Fail>
     requires name { blank.name ≡ L.name }
     requires parts { blank.parts ≡ L.parts }
     requires some { 0 < blank.parts }
@@ -111,31 +128,35 @@ fn script_counted<D: Domain, L: Ledger>(
         &mut Tally::new(),
         &mut steps,
     )?;
-    let mut differ: u64 = 0;
-    for number in 1..201_u64 {
+    let mut counts = Counts { differ: 0, full: 0 };
+    for number in 0..count {
         let text = draws.edit()?;
         let accepted = carry_out(
             alloc,
-            number,
-            text,
+            number.wrapping_add(1),
+            text.as_bytes(),
             &mut session,
             &mut Tally::new(),
             &mut steps,
         )?;
         if accepted && !is_as_anew(alloc, other, limit, &session, &mut steps)? {
-            differ = differ.saturating_add(1);
+            counts.differ = counts.differ.saturating_add(1);
+        }
+        if accepted && is_full(&session) {
+            counts.full = counts.full.saturating_add(1);
         }
     }
-    Ok(differ)
+    Ok(counts)
 }
 
-/// So many of 200 edits.
+/// Carries out so many edits drawn from the seed on.
 pub(crate) fn script<D: Domain>(
     alloc: Global,
     domain: D,
     other: &D,
     limit: u64,
     seed: u64,
-) -> Result<u64, Fail> {
-    script_counted::<D, Brand>(alloc, domain, other, limit, seed, Blank::new(1))
+    count: u64,
+) -> Result<Counts, Fail> {
+    script_counted::<D, Brand>(alloc, domain, other, limit, seed, count, Blank::new(1))
 }

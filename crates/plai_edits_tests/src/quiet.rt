@@ -27,7 +27,7 @@ fn told(log: &WorkLog) -> u64 {
 }
 
 /// How many entries are told of the work of the edit.
-fn told_counted<L: Ledger>(alloc: Global, text: &str, blank: Blank) -> Result<u64, Fail>
+fn told_counted<L: Ledger>(alloc: Global, text: &[u8], blank: Blank) -> Result<u64, Fail>
     requires name { blank.name ≡ L.name }
     requires parts { blank.parts ≡ L.parts }
     requires some { 0 < blank.parts }
@@ -43,7 +43,7 @@ fn told_counted<L: Ledger>(alloc: Global, text: &str, blank: Blank) -> Result<u6
 }
 
 fn told_of(alloc: Global, text: &str) -> Result<u64, Fail> {
-    told_counted::<Brand>(alloc, text, Blank::new(1))
+    told_counted::<Brand>(alloc, text.as_bytes(), Blank::new(1))
 }
 
 #[test]
