@@ -7,81 +7,102 @@ use Rattle.plai_theory.specs.Stages.{stage, Reaches, AtEntry, ByCall}
 use Rattle.plai_theory.specs.LeastTable.{Row, Order, IsLeastTable}
 use Rattle.plai_theory.specs.Tables.{source_of}
 use Rattle.plai_theory.specs.Rounds.{IsAsked, after_raising, IsMade, Begin, Add, Raise}
-use Rattle.plai_theory.proofs.Options.{given_in, by_test}
+use Rattle.plai_theory.proofs.Options.{given_in, in_given, by_test}
 use Rattle.plai_theory.proofs.Rounds.{map_in, push_in}
 use Rattle.plai_depth_symbols.specs.Kept.{OfValues, OfStates, IsKept, AnswersSo, IsKeptRow, AreKeptRows, TellsNames}
 
 -- a value of a bound option
-given_some : {A B : Type 0} (P : Type 0) (a : Option A) (f : A → Option B) (y : B) → given None f a ≡ Some y → ((x : A) → a ≡ Some x → f x ≡ Some y → P) → P
+pub given_some : {A B : Type 0} (P : Type 0) (a : Option A) (f : A → Option B) (y : B) → given None f a ≡ Some y → ((x : A) → a ≡ Some x → f x ≡ Some y → P) → P
 given_some P None f y e k = absurd cc
 given_some P (Some x) f y e k = k x refl e
+
+-- what the source answers at those of these names that have the property of calls has that of answers
+abbrev pub AnswersAt : (d : Domain) → OfValues d → OfValues d → Source d → List (NameOf d) → Type 0
+AnswersAt d of_call of_answer s names =
+    (q : d.Pred) (v a : d.Value) → IsIn (name_of d q v) names → of_call q v → s q v ≡ Some a → of_answer q a
 
 module _ (d : Domain) (g : Program d) (of_call : OfValues d) (of_state : OfStates d) (of_answer : OfValues d)
     (kept : IsKept d g of_call of_state of_answer) where
   abbrev Answers : Source d → Type 0
   Answers = AnswersSo d of_call of_answer
 
+  abbrev At : Source d → List (NameOf d) → Type 0
+  At = AnswersAt d of_call of_answer
+
   abbrev Keeps : Row d → Type 0
   Keeps = IsKeptRow d of_call of_answer
 
-  module _ (s : Source d) (answers : Answers s) (p : d.Pred) (c : d.Clause) (inside : IsIn c (g.clauses p)) where
+  module _ (s : Source d) (p : d.Pred) (c : d.Clause) (inside : IsIn c (g.clauses p)) where
     -- ---- along steps of the body
 
     abbrev Within : List (Step d.Literal d.Action) → Type 0
     Within steps = (x : Step d.Literal d.Action) → IsIn x steps → IsIn x (d.body c)
 
-    next_kept : (l : d.Literal) (st next : d.State) (answer : d.Value) → IsIn (Goal l) (d.body c) → of_state c st → s (d.callee l) (d.call l st) ≡ Some answer
-        → d.back l st answer ≡ Some next → of_state c next
-    next_kept l st next answer i h e f =
-        kept.back p c l st next answer inside i h (answers (d.callee l) (d.call l st) answer (kept.call p c l st inside i h) e) f
+    next_kept : (l : d.Literal) (st next : d.State) (answer : d.Value) (names : List (NameOf d)) → At s (name_of d (d.callee l) (d.call l st) ∷ names)
+        → IsIn (Goal l) (d.body c) → of_state c st → s (d.callee l) (d.call l st) ≡ Some answer → d.back l st answer ≡ Some next → of_state c next
+    next_kept l st next answer names answers i h e f =
+        kept.back p c l st next answer inside i h (answers (d.callee l) (d.call l st) answer (inl refl) (kept.call p c l st inside i h) e) f
 
-    pub behind_kept : (steps : List (Step d.Literal d.Action)) → Within steps → (st end : d.State) → of_state c st → state_behind d s steps st ≡ Some end
-        → of_state c end
-    unfolding state_behind
-    behind_kept [] w st end h e = let is : st ≡ end = cc in subst (of_state c) is h
-    behind_kept (Do x ∷ rest) w st end h e =
+    pub behind_kept : (steps : List (Step d.Literal d.Action)) → Within steps → (st end : d.State) → At s (calls_along d s steps st)
+        → of_state c st → state_behind d s steps st ≡ Some end → of_state c end
+    unfolding state_behind calls_along
+    behind_kept [] w st end answers h e = let is : st ≡ end = cc in subst (of_state c) is h
+    behind_kept (Do x ∷ rest) w st end answers h e =
         given_some (of_state c end) (d.refine x st) (λ next. state_behind d s rest next) end e
-        (λ next f k. behind_kept rest (λ y i. w y (inr i)) next end (kept.refine p c x st next inside (w (Do x) (inl refl)) h f) k)
-    behind_kept (Goal l ∷ rest) w st end h e =
+        (λ next f k. behind_kept rest (λ y i. w y (inr i)) next end (λ q u b i. answers q u b (in_given _ (d.refine x st) _ next f i))
+        (kept.refine p c x st next inside (w (Do x) (inl refl)) h f) k)
+    behind_kept (Goal l ∷ rest) w st end answers h e =
         given_some (of_state c end) (s (d.callee l) (d.call l st)) _ end e
         (λ answer f k. given_some (of_state c end) (d.back l st answer) (λ next. state_behind d s rest next) end k
         (λ next i j. behind_kept rest (λ y i. w y (inr i)) next end
-        (next_kept l st next answer (w (Goal l) (inl refl)) h f i) j))
+        (λ q u b m. answers q u b (inr (in_given _ (s (d.callee l) (d.call l st)) _ answer f (in_given _ (d.back l st answer) _ next i m))))
+        (next_kept l st next answer _ answers (w (Goal l) (inl refl)) h f i) j))
 
-    pub along_kept : (steps : List (Step d.Literal d.Action)) → Within steps → (st : d.State) → of_state c st → (x : NameOf d)
-        → IsIn x (calls_along d s steps st) → of_call x.pred x.call
+    pub along_kept : (steps : List (Step d.Literal d.Action)) → Within steps → (st : d.State) → At s (calls_along d s steps st) → of_state c st
+        → (x : NameOf d) → IsIn x (calls_along d s steps st) → of_call x.pred x.call
     unfolding calls_along
-    along_kept [] w st h x i = absurd i
-    along_kept (Do a ∷ rest) w st h x i =
+    along_kept [] w st answers h x i = absurd i
+    along_kept (Do a ∷ rest) w st answers h x i =
         given_in (of_call x.pred x.call) x (d.refine a st) (λ next. calls_along d s rest next) i
-        (λ next e j. along_kept rest (λ y k. w y (inr k)) next (kept.refine p c a st next inside (w (Do a) (inl refl)) h e) x j)
-    along_kept (Goal l ∷ rest) w st h x (inl e) = subst (λ (n : NameOf d). of_call n.pred n.call) e (kept.call p c l st inside (w (Goal l) (inl refl)) h)
-    along_kept (Goal l ∷ rest) w st h x (inr i) =
+        (λ next e j. along_kept rest (λ y k. w y (inr k)) next (λ q u b m. answers q u b (in_given _ (d.refine a st) _ next e m))
+        (kept.refine p c a st next inside (w (Do a) (inl refl)) h e) x j)
+    along_kept (Goal l ∷ rest) w st answers h x (inl e) =
+        subst (λ (n : NameOf d). of_call n.pred n.call) e (kept.call p c l st inside (w (Goal l) (inl refl)) h)
+    along_kept (Goal l ∷ rest) w st answers h x (inr i) =
         given_in (of_call x.pred x.call) x (s (d.callee l) (d.call l st)) _ i
         (λ answer e j. given_in (of_call x.pred x.call) x (d.back l st answer) (λ next. calls_along d s rest next) j
         (λ next f k. along_kept rest (λ y m. w y (inr m)) next
-        (next_kept l st next answer (w (Goal l) (inl refl)) h e f) x k))
+        (λ q u b m. answers q u b (inr (in_given _ (s (d.callee l) (d.call l st)) _ answer e (in_given _ (d.back l st answer) _ next f m))))
+        (next_kept l st next answer _ answers (w (Goal l) (inl refl)) h e f) x k))
 
     -- ---- of the clause at a call
 
-    pub answer_kept : (v a : d.Value) → of_call p v → answer_of d s c v ≡ Some a → of_answer p a
-    unfolding answer_of
-    answer_kept v a h e =
+    pub answer_at : (v a : d.Value) → At s (calls_of d s c v) → of_call p v → answer_of d s c v ≡ Some a → of_answer p a
+    unfolding answer_of calls_of
+    answer_at v a answers h e =
         given_some (of_answer p a) (d.enter c v) _ a e
         (λ st f k. given_some (of_answer p a) (state_behind d s (d.body c) st) (λ end. Some (d.exit c end)) a k
         (λ end m n.
         let is : d.exit c end ≡ a = cc in
-        subst (of_answer p) is (kept.exit p c end inside (behind_kept (d.body c) (λ y i. i) st end (kept.enter p c v st inside h f) m))))
+        subst (of_answer p) is (kept.exit p c end inside
+        (behind_kept (d.body c) (λ y i. i) st end (λ q u b i. answers q u b (in_given _ (d.enter c v) _ st f i)) (kept.enter p c v st inside h f) m))))
+
+    pub calls_at : (v : d.Value) → At s (calls_of d s c v) → of_call p v → (x : NameOf d) → IsIn x (calls_of d s c v) → of_call x.pred x.call
+    unfolding calls_of
+    calls_at v answers h x i =
+        given_in (of_call x.pred x.call) x (d.enter c v) (λ st. calls_along d s (d.body c) st) i
+        (λ st e j. along_kept (d.body c) (λ y k. k) st (λ q u b m. answers q u b (in_given _ (d.enter c v) _ st e m)) (kept.enter p c v st inside h e) x j)
+
+  module _ (s : Source d) (answers : Answers s) (p : d.Pred) (c : d.Clause) (inside : IsIn c (g.clauses p)) where
+    pub answer_kept : (v a : d.Value) → of_call p v → answer_of d s c v ≡ Some a → of_answer p a
+    answer_kept v a = answer_at s p c inside v a (λ q u b i. answers q u b)
 
     pub calls_kept : (v : d.Value) → of_call p v → (x : NameOf d) → IsIn x (calls_of d s c v) → of_call x.pred x.call
-    unfolding calls_of
-    calls_kept v h x i =
-        given_in (of_call x.pred x.call) x (d.enter c v) (λ st. calls_along d s (d.body c) st) i
-        (λ st e j. along_kept (d.body c) (λ y k. k) st (kept.enter p c v st inside h e) x j)
+    calls_kept v = calls_at s p c inside v (λ q u b i. answers q u b)
 
   -- ---- rows
 
-  join_kept : (p : d.Pred) (o q : Option d.Value) → ((a : d.Value) → o ≡ Some a → of_answer p a) → ((a : d.Value) → q ≡ Some a → of_answer p a)
+  pub join_kept : (p : d.Pred) (o q : Option d.Value) → ((a : d.Value) → o ≡ Some a → of_answer p a) → ((a : d.Value) → q ≡ Some a → of_answer p a)
       → (a : d.Value) → join_of d o q ≡ Some a → of_answer p a
   unfolding join_of
   join_kept p None q h k a e = k a e
@@ -90,19 +111,18 @@ module _ (d : Domain) (g : Program d) (of_call : OfValues d) (of_state : OfState
 
   -- ---- stages, and what they reach
 
-  best_kept : (s : Source d) → Answers s → (p : d.Pred) (cs : List d.Clause) → ((c : d.Clause) → IsIn c cs → IsIn c (g.clauses p)) → (v a : d.Value)
-      → of_call p v
-      → best_of d s cs v ≡ Some a → of_answer p a
+  pub best_at : (s : Source d) (p : d.Pred) (cs : List d.Clause) → ((c : d.Clause) → IsIn c cs → IsIn c (g.clauses p)) → (v a : d.Value)
+      → ((c : d.Clause) → IsIn c cs → At s (calls_of d s c v)) → of_call p v → best_of d s cs v ≡ Some a → of_answer p a
   unfolding best_of
-  best_kept s answers p [] w v a h e = absurd cc
-  best_kept s answers p (c ∷ cs) w v a h e =
-      join_kept p (answer_of d s c v) (best_of d s cs v) (λ b f. answer_kept s answers p c (w c (inl refl)) v b h f)
-      (λ b f. best_kept s answers p cs (λ x i. w x (inr i)) v b h f) a e
+  best_at s p [] w v a answers h e = absurd cc
+  best_at s p (c ∷ cs) w v a answers h e =
+      join_kept p (answer_of d s c v) (best_of d s cs v) (λ b f. answer_at s p c (w c (inl refl)) v b (answers c (inl refl)) h f)
+      (λ b f. best_at s p cs (λ x i. w x (inr i)) v b (λ x i. answers x (inr i)) h f) a e
 
   pub stage_kept : (n : ℕ) → Answers (stage d g n)
   unfolding stage
   stage_kept zero p v a h e = absurd cc
-  stage_kept (suc n) p v a h e = best_kept (stage d g n) (stage_kept n) p (g.clauses p) (λ c i. i) v a h e
+  stage_kept (suc n) p v a h e = best_at (stage d g n) p (g.clauses p) (λ c i. i) v a (λ c i q u b j. stage_kept n q u b) h e
 
   pub reach_kept : (s : Source d) → Answers s → {n : ℕ} {x : NameOf d} → Reaches d g s n x → of_call x.pred x.call
   reach_kept s answers (AtEntry {x = x} i) = kept.entries x.pred x.call i

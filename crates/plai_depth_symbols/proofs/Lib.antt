@@ -1,8 +1,11 @@
 pub mod Kept
+pub mod KeptRows
+pub mod Works
 pub mod Symbols
 pub mod Meets
 pub mod Moves
 pub mod Program
 pub mod Table
+pub mod Asked
 pub mod Stops
 pub mod Examples

@@ -168,7 +168,7 @@ module _ (k : ℕ) (program : ProgramView) where
         (join_over signature (skeletons_of a) (skeletons_of b) (skeletons_over signature a h));
   }
 
-  names_equal : (x y : Name PredKey Abs) → (as_domain (depth_k k)).same_name x y ≡ true → x ≡ y
+  pub names_equal : (x y : Name PredKey Abs) → (as_domain (depth_k k)).same_name x y ≡ true → x ≡ y
   names_equal x y e = let q = same_name-true (row_name x) (row_name y) e in λ i. record { pred = (q i).pred; call = (q i).call }
 
   -- Theorem: so are the calls and answers of rows that rounds make, and the calls of names that are asked for under them.

@@ -15,24 +15,21 @@ use Rattle.plai_clauses.specs.Program.{ProgramView}
 use Rattle.plai_eval.specs.Meaning.{Calling, Acting, as_domain, as_limits, as_program}
 use Rattle.plai_eval.specs.LeastTable.{IsLeastTable}
 use Rattle.plai_eval.specs.Stops.{IsOver}
-use Rattle.plai_rounds.specs.Causes.{IsAskedFor, AreTooMany, HasCause}
 use Rattle.plai_rounds.specs.declared.analyse_fail.AnalyseFail.{AnalyseFail}
 use Rattle.plai_rounds.specs.declared.analyse_fail.AnalyseFail.TheVariants.{Memory, Rows, Groups}
+use Rattle.plai_analysis.specs.Causes.{IsAskedFor, AreTooMany, HasCause}
 use Rattle.plai_depth_laws.specs.DepthK.{depth_k}
 use Rattle.plai_depth_symbols.specs.Symbols.{signature_of}
 use Rattle.plai_depth_symbols.specs.Patterns.{IsPatternOver}
 use Rattle.plai_depth_symbols.specs.Stops.{CountAtMost, AreTooManyOver}
-use Rattle.plai_depth_symbols.proofs.Program.{asked_over}
-
-pub asked_for_over : (k : ℕ) (program : ProgramView) (x : Name PredKey Abs) → IsAskedFor (depth_k k) program x → IsPatternOver (signature_of program) x.call
-asked_for_over k program x (rows, made, ask) = asked_over k program rows made x ask
+use Rattle.plai_depth_symbols.proofs.Asked.{asked_for_over}
 
 pub too_many_over : (k : ℕ) (program : ProgramView) (limit : ℕ) → AreTooMany (depth_k k) program limit → AreTooManyOver k program limit
 too_many_over k program limit many = record {
   names = many.names;
   many = many.many;
   distinct = many.distinct;
-  over = λ x i. asked_for_over k program x (many.asked x i);
+  over = λ x i. asked_for_over k program limit x (many.asked x i);
   below = many.below;
 }
 

@@ -15,9 +15,9 @@ ghost use Rattle.plai_clauses.specs.Program.{ProgramView};
 ghost use Rattle.plai_eval.specs.Meaning.{as_domain, as_program};
 ghost use Rattle.plai_eval.specs.LeastTable.{IsLeastTable};
 ghost use Rattle.plai_eval.specs.Stops.{IsOver};
-ghost use Rattle.plai_rounds.specs.Causes.{IsAskedFor, AreTooMany, HasCause};
 ghost use Rattle.plai_rounds.specs.declared.analyse_fail.AnalyseFail.{AnalyseFail};
 ghost use Rattle.plai_rounds.specs.declared.analyse_fail.AnalyseFail.TheVariants.{Memory};
+ghost use Rattle.plai_analysis.specs.Causes.{IsAskedFor, AreTooMany, HasCause};
 ghost use Rattle.plai_depth_laws.specs.Order.{IsUnder};
 ghost use Rattle.plai_depth_laws.specs.Skeletons.{meet};
 ghost use Rattle.plai_depth_laws.specs.DepthK.{depth_k};
@@ -70,11 +70,12 @@ pub fn least_tables_are_over_the_program()
         × ((row.answer ≡ Nothing) ⊎ IsPatternOver (signature_of program) row.answer) }
 {}
 
-/// What stops an analysis by its limit of rows: each name that is asked for has a call over the program's signature. So more
-/// such names than the limit lie at or below names of the least table, each of the same predicate; and where no more than the
-/// limit do, this stop never comes. No sets of groups are formed, so there is a table then, or memory is wanting.
+/// What stops an analysis by its limit of rows: each name that is asked for has a call over the program's signature, also behind
+/// work that begins with the rows that an edit keeps of another program's table. So more such names than the limit lie at or
+/// below names of the least table, each of the same predicate; and where no more than the limit do, this stop never comes. No
+/// sets of groups are formed, so there is a table then, or memory is wanting.
 pub fn stops_count_patterns_over_the_program()
-    ensures asked { (k : ℕ) (program : ProgramView) (x : Name PredKey Abs) → IsAskedFor (depth_k k) program x
+    ensures asked { (k : ℕ) (program : ProgramView) (limit : ℕ) (x : Name PredKey Abs) → IsAskedFor (depth_k k) program limit x
         → IsPatternOver (signature_of program) x.call }
     ensures too_many { (k : ℕ) (program : ProgramView) (limit : ℕ) → AreTooMany (depth_k k) program limit → AreTooManyOver k program limit }
     ensures within { (k : ℕ) (program : ProgramView) (table : List PlainRow) (limit : ℕ) → IsLeastTable (depth_k k) program table
