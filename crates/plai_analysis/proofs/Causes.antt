@@ -38,7 +38,6 @@ use Rattle.plai_fix.specs.Told.{PlainRow, work_over}
 use Rattle.plai_fix.specs.Stops.{IsOverBehind, Stops}
 use Rattle.plai_analysis.specs.Starts.{IsStart, AreFine}
 use Rattle.plai_analysis.specs.Causes.{HasWorked, IsAskedFor, AreTooMany, IsOverThere, HasCause}
-use Rattle.plai_analysis.specs.Fails.{fail_of}
 use Rattle.plai_analysis.proofs.Asked.{asked_log}
 
 -- the clause of a number is one of the predicate's
@@ -173,7 +172,7 @@ module _ (p : PlainDomain) (laws : domain.IsLawful p) (program : ProgramView) (g
 
     -- Theorem: work that comes to no end has a cause.
     pub cause : (begun told : Option (List WorkEntry)) (steps : ℕ) (fail : SolveFail)
-        → Stops p program limit (record { rows = opened; told = begun }) told steps fail → HasCause p program limit (fail_of fail)
+        → Stops p program limit (record { rows = opened; told = begun }) told steps fail → HasCause p program limit fail
     cause begun told steps Memory stop = tt
     cause begun told steps (Rows n) (same, h) = (same, rows_cause h.log h.is.name h.is.stopped h.is.met)
     cause begun told steps (Groups row number literal place) h = groups_cause h.log steps row number literal place h.is

@@ -41,9 +41,10 @@ use Rattle.plai_render.specs.Order.{AreApart, IsNarrow}
 use Rattle.plai_render.specs.Texts.{AreTextsInOrder}
 use Rattle.plai_table.specs.Rows.{TableRow}
 use Rattle.plai_arcs.specs.declared.arcs.Arcs.{Arcs}
-use Rattle.plai_rounds.specs.Table.{IsTextTable}
-use Rattle.plai_rounds.proofs.Lists.{in_map, length_map}
-use Rattle.plai_rounds.proofs.Narrow.{reached_narrow}
+use Rattle.plai_analysis.specs.Table.{IsTextTable}
+use Rattle.plai_theory.proofs.Snapshots.{in_map}
+use Rattle.plai_fix.proofs.Lists.{length_map}
+use Rattle.plai_repair.proofs.Narrow.{reached_narrow}
 use Rattle.plai_fix.specs.WorkStates.{KeptRow, IsNamed}
 use Rattle.plai_fix.specs.Tables.{key_name, kept_row, kept_rows}
 use Rattle.plai_fix.proofs.Lists.{slice_item}

@@ -15,8 +15,8 @@ use Rattle.plai_eval.specs.Meaning.{as_domain, as_program}
 use Rattle.plai_eval.specs.Evaluation.{evaluation}
 use Rattle.plai_eval.specs.LeastTable.{row_of, IsLeastTable}
 use Rattle.plai_eval.specs.Stops.{IsOver}
-use Rattle.plai_rounds.specs.declared.analyse_fail.AnalyseFail.{AnalyseFail}
-use Rattle.plai_rounds.specs.declared.analyse_fail.AnalyseFail.TheVariants as analyse_fail
+use Rattle.plai_fix.specs.declared.solve_fail.SolveFail.{SolveFail}
+use Rattle.plai_fix.specs.declared.solve_fail.SolveFail.TheVariants as solve_fail
 use Rattle.plai_fix.specs.WorkStates.{clause_at}
 use Rattle.plai_fix.specs.Told.{PlainRow, work_over}
 use Rattle.plai_analysis.specs.Starts.{IsStart}
@@ -59,7 +59,7 @@ pub record IsOverThere (p : PlainDomain) (program : ProgramView) (limit : ℕ) (
 
 -- want of memory is free; the limit is named, and there are too many names; or the program forms a set of too many groups,
 -- as the named evaluation does
-abbrev pub HasCause : PlainDomain → ProgramView → ℕ → AnalyseFail → Type 0
-HasCause p program limit analyse_fail.Memory = Unit {0}
-HasCause p program limit (analyse_fail.Rows n) = (n ≡ limit) × AreTooMany p program limit
-HasCause p program limit (analyse_fail.Groups row clause literal place) = IsOver p program × IsOverThere p program limit row clause literal place
+abbrev pub HasCause : PlainDomain → ProgramView → ℕ → SolveFail → Type 0
+HasCause p program limit solve_fail.Memory = Unit {0}
+HasCause p program limit (solve_fail.Rows n) = (n ≡ limit) × AreTooMany p program limit
+HasCause p program limit (solve_fail.Groups row clause literal place) = IsOver p program × IsOverThere p program limit row clause literal place

@@ -4,5 +4,6 @@ pub mod Kept
 pub mod Causes
 pub mod Solved
 pub mod Output
-pub mod Fails
+pub mod Caused
 pub mod Work
+pub mod Table

@@ -3,12 +3,11 @@ ghost use Rattle.std.specs.Prelude.{◌≡◌, ◌-◌, Option, None, Some, IfOk
 ghost use Rattle.plai_eval.specs.Meaning.{as_domain, as_program};
 ghost use Rattle.plai_eval.specs.Stops.{IsOver};
 ghost use Rattle.plai_clauses.specs.Program.{ProgramView};
-ghost use Rattle.plai_rounds.specs.Table.{IsTextTable};
+ghost use Rattle.plai_analysis.specs.Table.{IsTextTable};
 ghost use Rattle.plai_fix.specs.Logs.{Opens};
 ghost use Rattle.plai_fix.specs.Tables.{state_of};
 ghost use Rattle.plai_fix.specs.Told.{work_over};
 ghost use Rattle.plai_analysis.specs.Causes.{HasCause};
-ghost use Rattle.plai_analysis.specs.Fails.{fail_of};
 ghost use Rattle.plai_analysis.specs.Kept.{IsKeptTable};
 ghost use Rattle.plai_analysis.specs.Solved.{opened_rows, IsSolvedWork};
 ghost use Rattle.plai_analysis.specs.Starts.{IsStart, AreFine};
@@ -22,31 +21,9 @@ use plai_clauses::Program;
 use plai_domain::{Domain, Work};
 use plai_fix::{SolveFail, solve};
 use plai_repair::{is_quiet, keep_reachable, open_state};
-use plai_rounds::AnalyseFail;
 use plai_table::Table;
 use std::alloc::{AllocError, Global};
 use std::sync::ledger::Ledger;
-
-/// Why work came to no end, as why an analysis gives no table.
-fn fail_of(fail: SolveFail) -> AnalyseFail
-    ensures { result ≡ fail_of fail }
-{
-    match fail {
-        SolveFail::Memory => AnalyseFail::Memory,
-        SolveFail::Rows(limit) => AnalyseFail::Rows(limit),
-        SolveFail::Groups {
-            row,
-            clause,
-            literal,
-            place,
-        } => AnalyseFail::Groups {
-            row,
-            clause,
-            literal,
-            place,
-        },
-    }
-}
 
 /// Where work on the program has ended: the rows that calls reach from the entries' are kept, and are made texts, with what they
 /// say of the program's assertions.
@@ -78,7 +55,7 @@ fn work_on<D: Domain, W: Work, L: Ledger>(
     limit: u64,
     work: &mut W,
     steps: &mut Steps<L>,
-) -> Result<Analysed<D::Value>, AnalyseFail>
+) -> Result<Analysed<D::Value>, SolveFail>
     requires start { (was : Option ProgramView) × IsStart (D.plain domain.now) was program.now (opened_rows D.value_of (D.plain domain.now) program.now table.rows arcs) }
     requires opens { Opens (as_domain (D.plain domain.now)) (as_program (D.plain domain.now) program.now)
         (work_over (D.plain domain.now) (opened_rows D.value_of (D.plain domain.now) program.now table.rows arcs)) (state_of D.value_of (D.plain domain.now) table.rows arcs) }
@@ -93,11 +70,9 @@ fn work_on<D: Domain, W: Work, L: Ledger>(
         → StopsFrom (D.plain domain.now) was program.now limit (W.entries work.old) (W.entries work.new) (steps.new - steps.old) fail) }
 {
     program.is_program();
-    if let Err(fail) = solve(
+    solve(
         alloc, domain, program, &mut table, &mut arcs, limit, work, steps,
-    ) {
-        return Err(fail_of(fail));
-    }
+    )?;
     let analysed = conclude(alloc, domain, program, table, arcs, limit)?;
     Ok(analysed)
 }
@@ -120,7 +95,7 @@ pub fn analyse<D: Domain, W: Work, L: Ledger>(
     limit: u64,
     work: &mut W,
     steps: &mut Steps<L>,
-) -> Result<Analysed<D::Value>, AnalyseFail>
+) -> Result<Analysed<D::Value>, SolveFail>
     ensures table { IfOk result (λ analysed. IsTextTable (D.plain domain.now) program.now limit analysed.texts) }
     ensures kept { IfOk result (λ analysed. IsKeptTable D.value_of (D.plain domain.now) program.now limit analysed.table.rows analysed.arcs) }
     ensures not_over { OnOk result (¬ IsOver (D.plain domain.now) program.now) }
@@ -149,7 +124,7 @@ pub fn analyse_again<D: Domain, W: Work, L: Ledger>(
     limit: u64,
     work: &mut W,
     steps: &mut Steps<L>,
-) -> Result<Analysed<D::Value>, AnalyseFail>
+) -> Result<Analysed<D::Value>, SolveFail>
     requires kept { IsKeptTable D.value_of (D.plain domain.now) was.now limit kept.table.rows kept.arcs }
     requires fine { ¬ IsOver (D.plain domain.now) was.now }
     ensures table { IfOk result (λ analysed. IsTextTable (D.plain domain.now) program.now limit analysed.texts) }

@@ -1,7 +1,7 @@
 //! What a table that is kept tells.
 ghost use Rattle.std.specs.Prelude.{IfOk};
 ghost use Rattle.plai_arcs.specs.declared.arcs.Arcs as arcs;
-ghost use Rattle.plai_rounds.specs.Table.{IsTextTable};
+ghost use Rattle.plai_analysis.specs.Table.{IsTextTable};
 ghost use Rattle.plai_analysis.specs.Kept.{IsKeptTable};
 ghost use Rattle.plai_analysis.specs.Output.{IsPlainTable};
 

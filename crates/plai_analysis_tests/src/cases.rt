@@ -6,7 +6,7 @@ use plai_depth::DepthK;
 use plai_domain::Domain;
 use plai_make::made_program;
 use plai_pos::Ground;
-use plai_rounds::AnalyseFail;
+use plai_fix::SolveFail;
 use plai_share::ShareFree;
 use std::process::Abort;
 use std::test::Fail;
@@ -54,7 +54,7 @@ fn check_limits<D: Domain, R: AllocGlobal + Abort>(rt: &R, domain: &D) -> Result
     for limit in 1..200_u64 {
         match by_work(alloc, domain, &program, limit) {
             Ok(_) => return Ok(limit),
-            Err(AnalyseFail::Rows(named)) => assert_eq!(rt; named, limit),
+            Err(SolveFail::Rows(named)) => assert_eq!(rt; named, limit),
             Err(other) => return Err(other.into()),
         }
     }

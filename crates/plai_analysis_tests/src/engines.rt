@@ -6,7 +6,7 @@ use plai_clauses::Program;
 use plai_domain::{Domain, Tally, Work};
 use plai_modules::{NamedText, Text, load};
 use plai_render::TextTable;
-use plai_rounds::AnalyseFail;
+use plai_fix::SolveFail;
 use plai_terms::Listed;
 use std::alloc::Global;
 use std::marker::Brand;
@@ -32,7 +32,7 @@ fn work_counted<D: Domain, W: Work, L: Ledger>(
     limit: u64,
     work: &mut W,
     blank: Blank,
-) -> Result<TextTable, AnalyseFail>
+) -> Result<TextTable, SolveFail>
     requires name { blank.name ≡ L.name }
     requires parts { blank.parts ≡ L.parts }
     requires some { 0 < blank.parts }
@@ -49,7 +49,7 @@ pub(crate) fn by_told_work<D: Domain, W: Work>(
     program: &Program,
     limit: u64,
     work: &mut W,
-) -> Result<TextTable, AnalyseFail> {
+) -> Result<TextTable, SolveFail> {
     work_counted::<D, W, Brand>(alloc, domain, program, limit, work, Blank::new(1))
 }
 
@@ -59,7 +59,7 @@ pub(crate) fn by_work<D: Domain>(
     domain: &D,
     program: &Program,
     limit: u64,
-) -> Result<TextTable, AnalyseFail> {
+) -> Result<TextTable, SolveFail> {
     by_told_work(alloc, domain, program, limit, &mut Tally::new())
 }
 
@@ -69,7 +69,7 @@ fn rounds_counted<D: Domain, L: Ledger>(
     program: &Program,
     limit: u64,
     blank: Blank,
-) -> Result<TextTable, AnalyseFail>
+) -> Result<TextTable, SolveFail>
     requires name { blank.name ≡ L.name }
     requires parts { blank.parts ≡ L.parts }
     requires some { 0 < blank.parts }
@@ -84,6 +84,6 @@ pub(crate) fn by_rounds<D: Domain>(
     domain: &D,
     program: &Program,
     limit: u64,
-) -> Result<TextTable, AnalyseFail> {
+) -> Result<TextTable, SolveFail> {
     rounds_counted::<D, Brand>(alloc, domain, program, limit, Blank::new(1))
 }

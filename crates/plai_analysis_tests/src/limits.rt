@@ -3,7 +3,7 @@
 use crate::engines::{by_rounds, by_work, loaded};
 use plai_clauses::Program;
 use plai_pos::Ground;
-use plai_rounds::AnalyseFail;
+use plai_fix::SolveFail;
 use std::alloc::Global;
 use std::process::Abort;
 use std::test::Fail;
@@ -21,7 +21,7 @@ rev(X,Y) :- rev(X,[],Y). rev([],A,A). rev([H|T],A,R) :- rev(T,[H|A],R).";
 fn is_stopped(alloc: Global, program: &Program, limit: u64) -> Result<bool, Fail> {
     match by_work(alloc, &Ground::new(), program, limit) {
         Ok(_) => Ok(false),
-        Err(AnalyseFail::Rows(named)) => Ok(named == limit),
+        Err(SolveFail::Rows(named)) => Ok(named == limit),
         Err(fail) => Err(Fail::from(fail)),
     }
 }

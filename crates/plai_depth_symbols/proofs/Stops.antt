@@ -15,8 +15,8 @@ use Rattle.plai_clauses.specs.Program.{ProgramView}
 use Rattle.plai_eval.specs.Meaning.{Calling, Acting, as_domain, as_limits, as_program}
 use Rattle.plai_eval.specs.LeastTable.{IsLeastTable}
 use Rattle.plai_eval.specs.Stops.{IsOver}
-use Rattle.plai_rounds.specs.declared.analyse_fail.AnalyseFail.{AnalyseFail}
-use Rattle.plai_rounds.specs.declared.analyse_fail.AnalyseFail.TheVariants.{Memory, Rows, Groups}
+use Rattle.plai_fix.specs.declared.solve_fail.SolveFail.{SolveFail}
+use Rattle.plai_fix.specs.declared.solve_fail.SolveFail.TheVariants.{Memory, Rows, Groups}
 use Rattle.plai_analysis.specs.Causes.{IsAskedFor, AreTooMany, HasCause}
 use Rattle.plai_depth_laws.specs.DepthK.{depth_k}
 use Rattle.plai_depth_symbols.specs.Symbols.{signature_of}
@@ -80,7 +80,7 @@ never_over k program over = at_never k (stage (as_domain (depth_k k)) (as_progra
 -- Theorem: where no more than the limit count, only memory can be wanting.
 pub only_memory : (k : ℕ) (program : ProgramView) (table : List PlainRow) (limit : ℕ) → IsLeastTable (depth_k k) program table
     → CountAtMost k program table limit
-    → (fail : AnalyseFail) → HasCause (depth_k k) program limit fail → fail ≡ Memory
+    → (fail : SolveFail) → HasCause (depth_k k) program limit fail → fail ≡ Memory
 only_memory k program table limit least few Memory h = refl
 only_memory k program table limit least few (Rows n) h = absurd (within k program table limit least few h.1)
 only_memory k program table limit least few (Groups row clause literal place) h = absurd (never_over k program h.0)

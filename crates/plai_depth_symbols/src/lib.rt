@@ -15,8 +15,8 @@ ghost use Rattle.plai_clauses.specs.Program.{ProgramView};
 ghost use Rattle.plai_eval.specs.Meaning.{as_domain, as_program};
 ghost use Rattle.plai_eval.specs.LeastTable.{IsLeastTable};
 ghost use Rattle.plai_eval.specs.Stops.{IsOver};
-ghost use Rattle.plai_rounds.specs.declared.analyse_fail.AnalyseFail.{AnalyseFail};
-ghost use Rattle.plai_rounds.specs.declared.analyse_fail.AnalyseFail.TheVariants.{Memory};
+ghost use Rattle.plai_fix.specs.declared.solve_fail.SolveFail.{SolveFail};
+ghost use Rattle.plai_fix.specs.declared.solve_fail.SolveFail.TheVariants.{Memory};
 ghost use Rattle.plai_analysis.specs.Causes.{IsAskedFor, AreTooMany, HasCause};
 ghost use Rattle.plai_depth_laws.specs.Order.{IsUnder};
 ghost use Rattle.plai_depth_laws.specs.Skeletons.{meet};
@@ -82,7 +82,7 @@ pub fn stops_count_patterns_over_the_program()
         → CountAtMost k program table limit → AreTooMany (depth_k k) program limit → ⊥ }
     ensures never_over { (k : ℕ) (program : ProgramView) → IsOver (depth_k k) program → ⊥ }
     ensures complete { (k : ℕ) (program : ProgramView) (table : List PlainRow) (limit : ℕ) → IsLeastTable (depth_k k) program table
-        → CountAtMost k program table limit → (fail : AnalyseFail) → HasCause (depth_k k) program limit fail → fail ≡ Memory }
+        → CountAtMost k program table limit → (fail : SolveFail) → HasCause (depth_k k) program limit fail → fail ≡ Memory }
 {}
 
 /// Numbers made of `0` and `s`, by `n(0).` and `n(s(X)) :- n(X).`: the signature has these two symbols, `s(any)` is a pattern

@@ -6,7 +6,7 @@ use plai_base::Steps;
 use plai_clauses::Program;
 use plai_domain::{Domain, Tally, Work};
 use plai_modules::{NamedText, Text, load};
-use plai_rounds::AnalyseFail;
+use plai_fix::SolveFail;
 use plai_script::read_script;
 use plai_session::{EditAnswer, Session};
 use plai_terms::Listed;
@@ -80,9 +80,9 @@ fn is_as_anew<D: Domain, L: Ledger>(
             }
             Err(Fail::new("another table"))
         }
-        (None, Err(AnalyseFail::Rows(_))) => Ok(true),
-        (_, Err(AnalyseFail::Memory)) => Err(Fail::new("no memory")),
-        (_, Err(AnalyseFail::Groups { .. })) => Err(Fail::new("too many groups")),
+        (None, Err(SolveFail::Rows(_))) => Ok(true),
+        (_, Err(SolveFail::Memory)) => Err(Fail::new("no memory")),
+        (_, Err(SolveFail::Groups { .. })) => Err(Fail::new("too many groups")),
         _ => Ok(false),
     }
 }

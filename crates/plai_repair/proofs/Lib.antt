@@ -15,6 +15,7 @@ pub mod Reaches
 pub mod Ended
 pub mod Again
 pub mod Ordered
+pub mod Narrow
 pub mod Results
 pub mod Entries
 pub mod Stays

@@ -33,8 +33,8 @@ use Rattle.plai_eval.proofs.One.{strict}
 use Rattle.plai_eval.proofs.Lawful.{lawful_at, limits_at}
 use Rattle.plai_table.specs.Rows.{TableRow}
 use Rattle.plai_arcs.specs.declared.arcs.Arcs.{Arcs}
-use Rattle.plai_rounds.proofs.Lists.{in_map}
-use Rattle.plai_rounds.proofs.Narrow.{reached_narrow}
+use Rattle.plai_theory.proofs.Snapshots.{in_map}
+use Rattle.plai_repair.proofs.Narrow.{reached_narrow}
 use Rattle.plai_fix.specs.WorkStates.{KeptRow, Keeping, IsNamed}
 use Rattle.plai_fix.specs.Tables.{key_name, kept_row, kept_rows, state_of}
 use Rattle.plai_fix.specs.Told.{PlainRow, work_over}

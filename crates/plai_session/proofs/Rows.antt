@@ -8,7 +8,7 @@ use Rattle.plai_eval.specs.LeastTable.{IsLeastTable}
 use Rattle.plai_eval.proofs.One.{least_table_is_one}
 use Rattle.plai_render.specs.declared.text_table.TextTable.{TextTable}
 use Rattle.plai_render.specs.Texts.{AreTextsOf}
-use Rattle.plai_rounds.specs.Table.{IsTextTable}
+use Rattle.plai_analysis.specs.Table.{IsTextTable}
 use Rattle.plai_analysis.specs.Output.{IsPlainTable}
 use Rattle.plai_session.specs.Sessions.{AreRowsOf}
 

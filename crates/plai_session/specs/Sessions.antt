@@ -12,7 +12,7 @@ use Rattle.plai_eval.specs.Stops.{IsOver}
 use Rattle.plai_render.specs.declared.text_table.TextTable.{TextTable}
 use Rattle.plai_render.specs.Order.{IsNarrow}
 use Rattle.plai_render.specs.Texts.{AreTextsOf}
-use Rattle.plai_rounds.specs.Table.{IsTextTable}
+use Rattle.plai_analysis.specs.Table.{IsTextTable}
 use Rattle.plai_analysis.specs.declared.analysed.Analysed.{Analysed}
 use Rattle.plai_analysis.specs.Causes.{AreTooMany, IsOverThere}
 use Rattle.plai_analysis.specs.Kept.{IsKeptTable}

@@ -5,7 +5,7 @@ use Rattle.plai_domain.specs.declared.work.WorkEntry.TheVariants.{Mark}
 use Rattle.plai_domain.specs.Noted.{noted}
 use Rattle.plai_domain.specs.Plain.{PlainDomain}
 use Rattle.plai_clauses.specs.Program.{ProgramView}
-use Rattle.plai_rounds.specs.declared.analyse_fail.AnalyseFail.TheVariants as analyse_fail
+use Rattle.plai_fix.specs.declared.solve_fail.SolveFail.TheVariants as solve_fail
 use Rattle.plai_analysis.specs.Work.{HasEnded, HasStopped}
 use Rattle.plai_session.specs.declared.answer.EditAnswer.{EditAnswer}
 use Rattle.plai_session.specs.declared.answer.EditAnswer.TheVariants.{Table, Refused, StoppedRows, StoppedGroups}
@@ -17,11 +17,11 @@ abbrev pub IsWorkOf : PlainDomain → ℕ → Option ProgramView → ProgramView
 IsWorkOf p limit was program number before after steps Table = HasEnded p was program limit (noted (Mark number) before) after steps
 IsWorkOf p limit was program number before after steps (Refused cause) = ⊥
 IsWorkOf p limit was program number before after steps (StoppedRows most) =
-    HasStopped p was program limit (noted (Mark number) before) after steps (analyse_fail.Rows most)
+    HasStopped p was program limit (noted (Mark number) before) after steps (solve_fail.Rows most)
 IsWorkOf p limit was program number before after steps (StoppedGroups row clause literal place) =
-    HasStopped p was program limit (noted (Mark number) before) after steps (analyse_fail.Groups row clause literal place)
+    HasStopped p was program limit (noted (Mark number) before) after steps (solve_fail.Groups row clause literal place)
 
 -- want of memory cut the work off: it did not begin, or nothing or a legal log is told behind the mark
 abbrev pub IsCutOff : PlainDomain → ℕ → Option ProgramView → ProgramView → ℕ → Option (List WorkEntry) → Option (List WorkEntry) → Type 0
 IsCutOff p limit was program number before after =
-    (after ≡ before) ⊎ HasStopped p was program limit (noted (Mark number) before) after 0 analyse_fail.Memory
+    (after ≡ before) ⊎ HasStopped p was program limit (noted (Mark number) before) after 0 solve_fail.Memory

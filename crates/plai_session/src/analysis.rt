@@ -1,7 +1,7 @@
 //! The analysis of the program behind an edit.
 ghost use Rattle.std.specs.Prelude.{◌-◌, IfOk, IfErr, IfSome, OnOk, OnErr};
 ghost use Rattle.plai_eval.specs.Stops.{IsOver};
-ghost use Rattle.plai_rounds.specs.Table.{IsTextTable};
+ghost use Rattle.plai_analysis.specs.Table.{IsTextTable};
 ghost use Rattle.plai_analysis.specs.Causes.{HasCause};
 ghost use Rattle.plai_analysis.specs.Kept.{IsKeptTable};
 ghost use Rattle.plai_analysis.specs.Work.{HasEnded, HasStopped};
@@ -13,7 +13,7 @@ use plai_analysis::{Analysed, analyse, analyse_again};
 use plai_base::Steps;
 use plai_clauses::Program;
 use plai_domain::{Domain, Work, WorkEntry};
-use plai_rounds::AnalyseFail;
+use plai_fix::SolveFail;
 use std::alloc::{AllocError, Global};
 use std::hash::Hash;
 use std::sync::ledger::Ledger;
@@ -35,7 +35,7 @@ fn analyse_from<D: Domain, W: Work, L: Ledger>(
     limit: u64,
     work: &mut W,
     steps: &mut Steps<L>,
-) -> Result<Analysed<D::Value>, AnalyseFail>
+) -> Result<Analysed<D::Value>, SolveFail>
     requires own { IfSome kept (λ a. IsTableOf (D.plain domain.now) limit was.now a.texts) }
     requires worked { IfSome kept (λ a. IsKeptTable D.value_of (D.plain domain.now) was.now limit a.table.rows a.arcs) }
     ensures table { IfOk result (λ analysed. IsTextTable (D.plain domain.now) program.now limit analysed.texts) }
@@ -77,12 +77,12 @@ pub fn analyse_edit<D: Domain, W: Work, L: Ledger>(
             analysed: Some(analysed),
             answer: EditAnswer::Table,
         }),
-        Err(AnalyseFail::Rows(most)) => Ok(Answered {
+        Err(SolveFail::Rows(most)) => Ok(Answered {
             analysed: None,
             answer: EditAnswer::StoppedRows(most),
         }),
         Err(
-            AnalyseFail::Groups {
+            SolveFail::Groups {
                 row,
                 clause,
                 literal,
@@ -97,6 +97,6 @@ pub fn analyse_edit<D: Domain, W: Work, L: Ledger>(
                 place,
             },
         }),
-        Err(AnalyseFail::Memory) => Err(AllocError),
+        Err(SolveFail::Memory) => Err(AllocError),
     }
 }
