@@ -1,5 +1,5 @@
 -- Clauses of rows that an edit keeps are evaluated by a cause.
-use Rattle.std.proofs.Common.{◌≡◌, ℕ, true, List, [], ◌∷◌, ◌++◌, Option, Some, None, ◌⊎◌, sym, ◌∙◌, subst, inl, inr}
+use Rattle.std.proofs.Common.{◌≡◌, ℕ, true, List, [], ◌∷◌, ◌++◌, Option, Some, None, ◌⊎◌, subst, inl, inr}
 use Rattle.plai_theory.specs.Words.{IsIn}
 use Rattle.plai_theory.specs.Domain.{Domain, Program, Name}
 use Rattle.plai_theory.specs.Evaluation.{NameOf}
@@ -54,6 +54,11 @@ module _ (d : Domain) (g : Program d) (limit : ℕ) where
   legal_there w [] rest e legal = legal.0
   legal_there w (f ∷ done) rest e legal = legal_there (after d g w f) done rest e legal.1
 
+  -- a clause that may be evaluated is dirty
+  dirty_there : (w : Work d) (x : NameOf d) (i : ℕ) → IsLegal d g limit w (Evaluated x i) → (row : WorkRow d) → find d w.rows x ≡ Some row
+      → row.dirty i ≡ true
+  dirty_there w x i (none, (r, found, live, dirty), clause) row e = let same : r ≡ row = cc in subst (λ (q : WorkRow d). q.dirty i ≡ true) same dirty
+
 module _ (p : PlainDomain) (laws : domain.IsLawful p) (program : ProgramView) (good : IsWellFormed program) (limit : ℕ) where
   -- Theorem: wherever work on the program begins, it is careful.
   pub careful : (was : Option ProgramView) (opened : List PlainRow) → IsStart p was program opened → IsCarefulStart p was program limit opened
@@ -67,9 +72,6 @@ module _ (p : PlainDomain) (laws : domain.IsLawful p) (program : ProgramView) (g
           → (es : List (LogEntry (as_domain p))) → log ≡ es → IsLegalLog (as_domain p) (as_program p program) limit begun es
       legal_in log legal es same = subst (IsLegalLog (as_domain p) (as_program p program) limit begun) same legal
 
-      marked : (row found : WorkRow (as_domain p)) (i : ℕ) → Some found ≡ Some row → found.dirty i ≡ true → row.dirty i ≡ true
-      marked row found i same dirty = cc
-
       all : (log : List (LogEntry (as_domain p))) → IsLegalLog (as_domain p) (as_program p program) limit begun log
           → AreEvaluatedByCause p (Some was) program opened log
       all log legal done rest x i parts kept row is_kept is_there =
@@ -78,4 +80,5 @@ module _ (p : PlainDomain) (laws : domain.IsLawful p) (program : ProgramView) (g
           caused (as_domain p) (as_program p was) done x i (row.calls i)
           (dirty_cause (as_domain p) (as_program p was) (as_program p program) (lawful_at p laws program good) start.table (work_over p opened).rows
           start.opening limit done (legal_first (as_domain p) (as_program p program) limit begun done (Evaluated x i ∷ rest) within)
-          x row is_there (start.opening.kept x kept is_kept) i (marked row there.1.0.0 i (sym there.1.0.1.0 ∙ is_there) there.1.0.1.1.1))
+          x row is_there (start.opening.kept x kept is_kept) i
+          (dirty_there (as_domain p) (as_program p program) limit (after_all (as_domain p) (as_program p program) begun done) x i there row is_there))

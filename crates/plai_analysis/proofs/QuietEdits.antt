@@ -1,8 +1,9 @@
 -- A quiet edit leaves the entries, and the clauses of each row of a table that is whole; so the table stays whole.
-use Rattle.std.proofs.Common.{◌≡◌, ℕ, List, map, Some, None, ap, ◌∙◌, subst}
+use Rattle.std.proofs.Common.{◌≡◌, ℕ, List, map, Some, None, ap, sym, ◌∙◌, subst}
 use Rattle.plai_theory.specs.Words.{IsIn, given, item}
 use Rattle.plai_theory.specs.Domain.{Name}
 use Rattle.plai_theory.specs.LeastTable.{Row}
+use Rattle.plai_theory.specs.LeastTable as theory
 use Rattle.plai_theory.proofs.Same.{least_unique}
 use Rattle.plai_terms.specs.declared.abs.Abs.{Abs}
 use Rattle.plai_terms.specs.declared.pred_key.PredKey.{PredKey}
@@ -22,8 +23,11 @@ use Rattle.plai_fix.proofs.Places.{item_map}
 use Rattle.plai_repair.specs.Opened.{IsWholeTable}
 use Rattle.plai_repair.specs.Unchanged.{AreUnchanged}
 use Rattle.plai_repair.proofs.StillWhole.{unchanged_quiet, still_whole, still_not_over}
+use Rattle.plai_assert.specs.Verdicts.{verdicts_of}
+use Rattle.plai_render.specs.declared.text_table.TextTable.{TextTable}
 use Rattle.plai_analysis.specs.Quiet.{IsQuiet}
 use Rattle.plai_analysis.specs.Kept.{IsKeptTable}
+use Rattle.plai_analysis.specs.Table.{IsTextTable}
 
 module _ {V : Type 0} (value_of : V → Abs) (p : PlainDomain) (was program : ProgramView) where
   module _ (rows : List (Row (as_domain p))) (table : List (TableRow V)) (arcs : Arcs) (whole : IsWholeTable value_of p was rows table arcs) where
@@ -69,3 +73,20 @@ module _ {V : Type 0} (value_of : V → Abs) (p : PlainDomain) (was program : Pr
         → IsOver p program → ⊥
     still_fine rows whole unchanged fine =
         still_not_over value_of p was program rows table arcs whole unchanged laws good good' fine
+
+    -- Theorem: and the texts of its rows are still those of the least table, with the verdicts on the same assertions.
+    pub still_told : (limit : ℕ) (texts : TextTable) → IsTextTable p was limit texts → IsKeptTable value_of p was limit table arcs
+        → AreUnchanged was program table → program.checks ≡ was.checks → IsTextTable p program limit texts
+    still_told limit texts own kept unchanged same =
+        record {
+          rows = own.rows;
+          least = subst (λ (rows : List (Row (as_domain p))). theory.IsLeastTable (as_domain p) (as_program p program) (order.before p) rows) (sym one)
+              (still_whole value_of p was program kept.rows table arcs kept.whole unchanged laws good good').least;
+          narrow = own.narrow;
+          within = own.within;
+          are_texts = own.are_texts;
+          are_verdicts = own.are_verdicts ∙ ap (verdicts_of p own.rows) (sym same);
+        }
+      where
+        one : map (order.row_of p) own.rows ≡ kept.rows
+        one = least_unique (as_domain p) (as_program p was) (order.before p) (strict p) (map (order.row_of p) own.rows) kept.rows own.least kept.whole.least

@@ -4,6 +4,7 @@ ghost use Rattle.plai_eval.specs.Meaning.{as_domain, as_program};
 ghost use Rattle.plai_eval.specs.Stops.{IsOver};
 ghost use Rattle.plai_clauses.specs.Program.{ProgramView};
 ghost use Rattle.plai_analysis.specs.Table.{IsTextTable};
+ghost use Rattle.plai_repair.specs.Lost.{AreTouched};
 ghost use Rattle.plai_fix.specs.Logs.{Opens};
 ghost use Rattle.plai_fix.specs.Tables.{state_of};
 ghost use Rattle.plai_fix.specs.Told.{work_over};
@@ -14,7 +15,8 @@ ghost use Rattle.plai_analysis.specs.Starts.{IsStart, AreFine};
 ghost use Rattle.plai_analysis.specs.Work.{HasEnded, HasStopped, HasWhole, StopsFrom};
 
 use crate::analysed::Analysed;
-use crate::table::texts_of_table;
+use crate::table::{texts_again, texts_of_table};
+use indexmap::IndexSet;
 use plai_arcs::Arcs;
 use plai_base::Steps;
 use plai_clauses::Program;
@@ -22,6 +24,7 @@ use plai_domain::{Domain, Work};
 use plai_fix::{SolveFail, solve};
 use plai_repair::{is_quiet, keep_reachable, open_state};
 use plai_table::Table;
+use plai_terms::PredKey;
 use std::alloc::{AllocError, Global};
 use std::sync::ledger::Ledger;
 
@@ -70,11 +73,15 @@ fn work_on<D: Domain, W: Work, L: Ledger>(
         → StopsFrom (D.plain domain.now) was program.now limit (W.entries work.old) (W.entries work.new) (steps.new - steps.old) fail) }
 {
     program.is_program();
-    solve(
+    if let Err(fail) = solve(
         alloc, domain, program, &mut table, &mut arcs, limit, work, steps,
-    )?;
-    let analysed = conclude(alloc, domain, program, table, arcs, limit)?;
-    Ok(analysed)
+    ) {
+        return Err(fail);
+    }
+    match conclude(alloc, domain, program, table, arcs, limit) {
+        Ok(analysed) => Ok(analysed),
+        Err(_) => Err(SolveFail::Memory),
+    }
 }
 
 /// The least table of the program under the domain, as text, in the order of a table, and what it says of the program's
@@ -110,8 +117,9 @@ pub fn analyse<D: Domain, W: Work, L: Ledger>(
 
 /// The same of the program behind an edit of the program `was`, from what its analysis keeps (Hermenegildo, Puebla, Marriott and
 /// Stuckey 2000). A quiet edit, which leaves the entries and the clauses of each predicate that has a row, takes no step, notes
-/// nothing, and keeps the rows. Else the rows from which calls lead to a predicate that lost a clause are gone, and work begins
-/// with the others, dormant, with their answers; the clauses that their predicates gained are dirty.
+/// nothing, and keeps the rows, with their texts where it leaves the assertions too. Else the rows from which calls lead to a
+/// predicate that lost a clause are gone, and work begins with the others, dormant, with their answers; the clauses that their
+/// predicates gained are dirty. The edit touches these predicates: clauses of others aren't compared.
 ///
 /// Table and stops are as [`analyse`]'s, but that the rows in the making may be others: a stop at the limit comes only where
 /// more names than the limit are asked for by work that began with no rows or with those that an edit keeps.
@@ -121,10 +129,13 @@ pub fn analyse_again<D: Domain, W: Work, L: Ledger>(
     was: &Program,
     kept: Analysed<D::Value>,
     program: &Program,
+    touched: &IndexSet<PredKey>,
     limit: u64,
     work: &mut W,
     steps: &mut Steps<L>,
 ) -> Result<Analysed<D::Value>, SolveFail>
+    requires touched { AreTouched was.now program.now touched.now.keys }
+    requires own { IsTextTable (D.plain domain.now) was.now limit kept.texts }
     requires kept { IsKeptTable D.value_of (D.plain domain.now) was.now limit kept.table.rows kept.arcs }
     requires fine { ¬ IsOver (D.plain domain.now) was.now }
     ensures table { IfOk result (λ analysed. IsTextTable (D.plain domain.now) program.now limit analysed.texts) }
@@ -137,14 +148,14 @@ pub fn analyse_again<D: Domain, W: Work, L: Ledger>(
     was.is_program();
     program.is_program();
     let Analysed {
+        texts,
         mut table,
         mut arcs,
-        ..
     } = kept;
-    if is_quiet(&table, was, program) {
-        let texts = texts_of_table(alloc, domain, program, &table, limit)?;
+    if is_quiet(&table, was, program, touched) {
+        let texts = texts_again(alloc, domain, was, program, texts, &table, limit)?;
         return Ok(Analysed { texts, table, arcs });
     }
-    open_state(alloc, domain, &mut table, &mut arcs, was, program)?;
+    open_state(alloc, domain, &mut table, &mut arcs, was, program, touched)?;
     work_on(alloc, domain, program, table, arcs, limit, work, steps)
 }

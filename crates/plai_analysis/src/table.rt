@@ -1,6 +1,7 @@
 //! What a table that is kept tells.
 ghost use Rattle.std.specs.Prelude.{IfOk};
 ghost use Rattle.plai_arcs.specs.declared.arcs.Arcs as arcs;
+ghost use Rattle.plai_repair.specs.Unchanged.{AreUnchanged};
 ghost use Rattle.plai_analysis.specs.Table.{IsTextTable};
 ghost use Rattle.plai_analysis.specs.Kept.{IsKeptTable};
 ghost use Rattle.plai_analysis.specs.Output.{IsPlainTable};
@@ -11,6 +12,7 @@ use plai_assert::{verdicts, verdicts_need_no_order};
 use plai_clauses::Program;
 use plai_domain::Domain;
 use plai_render::{PlainRow, TextTable, sort_rows, sort_texts};
+use plai_repair::same_checks;
 use plai_table::Table;
 use plai_terms::Listed;
 use std::alloc::{AllocError, Global};
@@ -37,6 +39,30 @@ pub(crate) fn texts_of_table<D: Domain>(
         rows: Listed::new(texts),
         verdicts: Listed::new(found),
     })
+}
+
+/// The same behind an edit that leaves the entries and the clauses of each row's predicate: the texts that were kept of the
+/// program before it, where it leaves the assertions too.
+pub(crate) fn texts_again<D: Domain>(
+    alloc: Global,
+    domain: &D,
+    was: &Program,
+    program: &Program,
+    texts: TextTable,
+    table: &Table<D::Value>,
+    limit: u64,
+) -> Result<TextTable, AllocError>
+    requires own { IsTextTable (D.plain domain.now) was.now limit texts }
+    requires kept { (kept : arcs.Arcs) × IsKeptTable D.value_of (D.plain domain.now) was.now limit table.now.rows kept }
+    requires unchanged { AreUnchanged was.now program.now table.now.rows }
+    ensures { IfOk result (IsTextTable (D.plain domain.now) program.now limit) }
+{
+    was.is_program();
+    program.is_program();
+    if same_checks(program.checks(), was.checks()) {
+        return Ok(texts);
+    }
+    texts_of_table(alloc, domain, program, table, limit)
 }
 
 /// The rows of such a table as patterns, in the order of a table.

@@ -1,9 +1,15 @@
 -- What is lost at an edit (Hermenegildo, Puebla, Marriott and Stuckey 2000). Rows are numbered from 0, as in the table, and
 -- clauses from 1.
 use Rattle.std.specs.Prelude.{◌≡◌, ◌↔◌, ℕ, Bool, true, false, List, ◌++◌, length, get_or, slice_get}
+use Rattle.std.specs.List.{list_any}
 use Rattle.plai_theory.specs.Words.{HasSome}
-use Rattle.plai_clauses.specs.Program.{ProgramView, clauses_of}
+use Rattle.plai_terms.specs.declared.pred_key.PredKey.{PredKey}
+use Rattle.plai_clauses.specs.Program.{ProgramView, same_pred, clauses_of}
 use Rattle.plai_table.specs.Rows.{TableRow}
+
+-- an edit touches these predicates: each other one has the clauses that it had
+abbrev pub AreTouched : ProgramView → ProgramView → List PredKey → Type 0
+AreTouched before after touched = (pred : PredKey) → list_any (same_pred pred) touched ≡ false → clauses_of after pred ≡ clauses_of before pred
 
 -- a list that another one begins with
 abbrev pub IsPrefix : {A : Type 0} → List A → List A → Type 0

@@ -64,7 +64,7 @@ fn same_literals(one: &[Literal], two: &[Literal]) -> bool
 }
 
 /// Whether these are equal.
-pub(crate) fn same_clause(one: &Clause, two: &Clause) -> bool
+fn same_clause(one: &Clause, two: &Clause) -> bool
     ensures { (result ≡ true) ↔ (one.now ≡ two.now) }
 {
     let names = one.name == two.name;
@@ -73,8 +73,25 @@ pub(crate) fn same_clause(one: &Clause, two: &Clause) -> bool
     names & heads & (one.variables == two.variables) & bodies
 }
 
+/// Whether the clauses are equal one by one.
+pub(crate) fn same_clauses(one: &[Clause], two: &[Clause]) -> bool
+    ensures { (result ≡ true) ↔ (one.now ≡ two.now) }
+{
+    if one.len() != two.len() {
+        return false;
+    }
+    let mut place: usize = 0;
+    while place < one.len() {
+        if !same_clause(&one[place], &two[place]) {
+            return false;
+        }
+        place += 1;
+    }
+    true
+}
+
 /// Whether the old list of clauses is no prefix of the new one.
-pub fn lost_clauses(old: &[Clause], new: &[Clause]) -> bool
+pub(crate) fn lost_clauses(old: &[Clause], new: &[Clause]) -> bool
     ensures { (result ≡ false) ↔ IsPrefix old.now new.now }
 {
     if new.len() < old.len() {

@@ -2,13 +2,15 @@
 ghost use Rattle.std.specs.Prelude.{◌≡◌, ◌↔◌, ◌<◌, ◌≤◌, ℕ, true, false, length, get_or, [], OnOk, IfOk};
 ghost use Rattle.plai_arcs.specs.Arcs.{is_call};
 ghost use Rattle.plai_theory.specs.Words.{IsIn};
-ghost use Rattle.plai_repair.specs.Lost.{LosesAt, IsLost, AreLost};
+ghost use Rattle.plai_repair.specs.Lost.{AreTouched, LosesAt, IsLost, AreLost};
 ghost use Rattle.plai_repair.specs.Gathering.{AreMarked, Gathers, Spreads, IsRowOf};
 
-use crate::comparing::lost_clauses;
+use crate::touching::loses;
+use indexmap::IndexSet;
 use plai_arcs::Arcs;
 use plai_clauses::Program;
 use plai_table::Table;
+use plai_terms::PredKey;
 use std::alloc::{AllocError, Global};
 use std::hash::Hash;
 
@@ -65,16 +67,18 @@ fn gather_where_lost<V: Eq + Hash + Drop>(
     table: &Table<V>,
     before: &Program,
     after: &Program,
+    touched: &IndexSet<PredKey>,
     row: u64,
     gathered: &mut Gathered,
 ) -> Result<(), AllocError>
     requires there { row < length gathered.old.marks.items }
     requires row { row < length table.now.rows }
+    requires touched { AreTouched before.now after.now touched.now.keys }
     requires marked { AreMarked gathered.old.marks.items gathered.old.rows.items }
     ensures { OnOk result (Gathers (λ j. (j ≡ row) × LosesAt before.now after.now table.now.rows j) gathered.old.marks.items gathered.old.rows.items gathered.new.marks.items gathered.new.rows.items) }
 {
     let pred = &table.row(row).name.pred;
-    if !lost_clauses(before.clauses_of(pred), after.clauses_of(pred)) {
+    if !loses(before, after, touched, pred) {
         return Ok(());
     }
     gather(gathered, row)?;
@@ -86,14 +90,16 @@ fn gather_lost<V: Eq + Hash + Drop>(
     table: &Table<V>,
     before: &Program,
     after: &Program,
+    touched: &IndexSet<PredKey>,
     gathered: &mut Gathered,
 ) -> Result<(), AllocError>
     requires there { length gathered.old.marks.items ≡ length table.now.rows }
+    requires touched { AreTouched before.now after.now touched.now.keys }
     requires marked { AreMarked gathered.old.marks.items gathered.old.rows.items }
     ensures { OnOk result (Gathers (LosesAt before.now after.now table.now.rows) gathered.old.marks.items gathered.old.rows.items gathered.new.marks.items gathered.new.rows.items) }
 {
     for row in 0..table.len() {
-        gather_where_lost(table, before, after, row, gathered)?;
+        gather_where_lost(table, before, after, touched, row, gathered)?;
     }
     Ok(())
 }
@@ -114,19 +120,21 @@ fn spread(arcs: &Arcs, gathered: &mut Gathered) -> Result<(), AllocError>
 }
 
 /// A mark for each row, set exactly where calls of any number, none included, lead from the row to a row whose predicate lost
-/// a clause.
+/// a clause, at an edit that touches these predicates.
 pub fn lost_rows<V: Eq + Hash + Drop>(
     alloc: Global,
     table: &Table<V>,
     arcs: &Arcs,
     before: &Program,
     after: &Program,
+    touched: &IndexSet<PredKey>,
 ) -> Result<Vec<bool>, AllocError>
-    requires { (r c q : ℕ) → is_call arcs.now r c q ≡ true → r < length table.now.rows }
+    requires touched { AreTouched before.now after.now touched.now.keys }
+    requires within { (r c q : ℕ) → is_call arcs.now r c q ≡ true → r < length table.now.rows }
     ensures { IfOk result (λ marks. AreLost (LosesAt before.now after.now table.now.rows) (is_call arcs.now) (length table.now.rows) marks.items) }
 {
     let mut gathered = none(alloc, table.len() as usize)?;
-    gather_lost(table, before, after, &mut gathered)?;
+    gather_lost(table, before, after, touched, &mut gathered)?;
     spread(arcs, &mut gathered)?;
     Ok(gathered.marks)
 }

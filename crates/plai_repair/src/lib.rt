@@ -4,6 +4,7 @@
 #![tactic(auto)]
 
 mod comparing;
+mod equal;
 mod gaining;
 mod gathering;
 mod opening;
@@ -11,8 +12,9 @@ mod quiet;
 mod reaching;
 mod removal;
 mod sleeping;
+mod touching;
 
-pub use comparing::lost_clauses;
+pub use equal::same_checks;
 pub use gathering::lost_rows;
 pub use opening::open_state;
 pub use quiet::is_quiet;

@@ -1,85 +1,45 @@
 //! Whether an edit leaves the entries, and the clauses of each row's predicate.
 ghost use Rattle.std.specs.Prelude.{◌≡◌, ◌↔◌, ◌<◌, true, length};
+ghost use Rattle.plai_repair.specs.Lost.{AreTouched};
 ghost use Rattle.plai_repair.specs.Unchanged.{StaysAt, AreUnchanged};
 
-use crate::comparing::same_clause;
-use plai_clauses::{Clause, Entry, Program};
+use crate::equal::same_entries;
+use crate::touching::keeps;
+use indexmap::IndexSet;
+use plai_clauses::Program;
 use plai_table::Table;
-use plai_terms::Prop;
+use plai_terms::PredKey;
 use std::hash::Hash;
-
-/// Whether the clauses are equal one by one.
-fn same_clauses(one: &[Clause], two: &[Clause]) -> bool
-    ensures { (result ≡ true) ↔ (one.now ≡ two.now) }
-{
-    if one.len() != two.len() {
-        return false;
-    }
-    let mut place: usize = 0;
-    while place < one.len() {
-        if !same_clause(&one[place], &two[place]) {
-            return false;
-        }
-        place += 1;
-    }
-    true
-}
-
-/// Whether the properties are equal one by one.
-fn same_properties(one: &[Prop], two: &[Prop]) -> bool
-    ensures { (result ≡ true) ↔ (one.now ≡ two.now) }
-{
-    one == two
-}
-
-/// Whether these are equal.
-fn same_entry(one: &Entry, two: &Entry) -> bool
-    ensures { (result ≡ true) ↔ (one.now ≡ two.now) }
-{
-    let modules = one.module == two.module;
-    let preds = one.pred == two.pred;
-    let properties = same_properties(one.pre.as_slice(), two.pre.as_slice());
-    modules & preds & properties
-}
-
-/// Whether the entries are equal one by one.
-fn same_entries(one: &[Entry], two: &[Entry]) -> bool
-    ensures { (result ≡ true) ↔ (one.now ≡ two.now) }
-{
-    if one.len() != two.len() {
-        return false;
-    }
-    let mut place: usize = 0;
-    while place < one.len() {
-        if !same_entry(&one[place], &two[place]) {
-            return false;
-        }
-        place += 1;
-    }
-    true
-}
 
 /// Whether the row's predicate has the clauses that it had.
 fn keeps_clauses<V: Eq + Hash + Drop>(
     table: &Table<V>,
     before: &Program,
     after: &Program,
+    touched: &IndexSet<PredKey>,
     row: u64,
 ) -> bool
-    requires { row < length table.now.rows }
+    requires row { row < length table.now.rows }
+    requires touched { AreTouched before.now after.now touched.now.keys }
     ensures { (result ≡ true) ↔ StaysAt before.now after.now table.now.rows row }
 {
-    let pred = &table.row(row).name.pred;
-    same_clauses(after.clauses_of(pred), before.clauses_of(pred))
+    keeps(before, after, touched, &table.row(row).name.pred)
 }
 
-/// Whether the edit leaves the entries, and the clauses of the predicate of each row. It takes no memory.
-pub fn is_quiet<V: Eq + Hash + Drop>(table: &Table<V>, before: &Program, after: &Program) -> bool
+/// Whether the edit, which touches these predicates, leaves the entries, and the clauses of the predicate of each row. It takes
+/// no memory. Clauses of other predicates aren't looked at.
+pub fn is_quiet<V: Eq + Hash + Drop>(
+    table: &Table<V>,
+    before: &Program,
+    after: &Program,
+    touched: &IndexSet<PredKey>,
+) -> bool
+    requires { AreTouched before.now after.now touched.now.keys }
     ensures { (result ≡ true) ↔ AreUnchanged before.now after.now table.now.rows }
 {
     let mut row: u64 = 0;
     while row < table.len() {
-        if !keeps_clauses(table, before, after, row) {
+        if !keeps_clauses(table, before, after, touched, row) {
             return false;
         }
         row += 1;

@@ -10,7 +10,7 @@ use Rattle.plai_analysis.proofs.QuietEdits.{quiet, unchanged, still_kept, still_
 use Rattle.plai_analysis.proofs.analysis.analyse_again.Goals as goal
 
 pub open_state-requires : goal.open_state-requires
-open_state-requires g c = (c.requires.kept.rows, c.requires.kept.whole)
+open_state-requires g c = record { touched = c.requires.touched; whole = (c.requires.kept.rows, c.requires.kept.whole) }
 
 pub work_on-requires : goal.work_on-requires
 work_on-requires g c =
@@ -28,13 +28,12 @@ work_on-requires g c =
           c.requires.kept.rows c.requires.kept.whole.least c.open_state.new.table.rows c.open_state.new.arcs is;
     }
 
-pub texts_of_table-requires : goal.texts_of_table-requires
-texts_of_table-requires g c = (
-  c.args.kept.arcs,
-  still_kept g.D.Domain.value_of (g.D.Domain.plain c.args.domain.now) c.args.was.now c.args.program.now (g.met.D.Domain.lawful c.args.domain.now)
-      c.is_program.ensures.well_formed c.is_program-2.ensures.well_formed c.args.kept.table.rows c.args.kept.arcs c.args.limit c.requires.kept
-      (c.is_quiet.ensures.0 c.if-is_quiet.true),
-)
+pub texts_again-requires : goal.texts_again-requires
+texts_again-requires g c = record {
+  own = c.requires.own;
+  kept = (c.args.kept.arcs, c.requires.kept);
+  unchanged = c.is_quiet.ensures.0 c.if-is_quiet.true;
+}
 
 pub returns : goal.returns
 returns g c =

@@ -8,7 +8,7 @@ use Rattle.plai_repair.proofs.gathering.lost_rows.Goals as goal
 pub spread-requires-clause-within : goal.spread-requires-clause-within
 spread-requires-clause-within g c =
     λ r k q t. let long = c.in_ok-gather_lost.ensures.long ∙ c.in_ok-gathered.ensures.size ∙ c.len.ensures.len in
-    subst (λ (n : ℕ). r < n) (sym long) (c.requires r k q t)
+    subst (λ (n : ℕ). r < n) (sym long) (c.requires.within r k q t)
 
 pub returns : goal.returns
 returns g c =

@@ -1,6 +1,6 @@
 use Rattle.std.proofs.Common.{◌≡◌, refl, subst, length, arith, ℕ}
 use Rattle.plai_repair.proofs.Compared.{AreSame, all_same}
-use Rattle.plai_repair.proofs.quiet.same_clauses.Goals as goal
+use Rattle.plai_repair.proofs.equal.same_checks.Goals as goal
 
 pub returns : goal.returns
 returns c =

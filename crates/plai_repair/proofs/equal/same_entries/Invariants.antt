@@ -1,6 +1,6 @@
 use Rattle.std.proofs.Common.{◌≤◌, ◌-◌, length}
 use Rattle.plai_repair.proofs.Compared.{AreSame}
-use Rattle.plai_repair.proofs.quiet.same_entries.Given as goal
+use Rattle.plai_repair.proofs.equal.same_entries.Given as goal
 
 -- so many items are the same
 abbrev pub invariant-loop-place : goal.invariant-loop-place

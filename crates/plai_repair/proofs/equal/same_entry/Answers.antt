@@ -2,7 +2,7 @@ use Rattle.std.proofs.Common.{◌≡◌, ◌∙◌, ◌↔◌, true, sym}
 use Rattle.plai_terms.proofs.SameNames.{name-Decides, key-Decides}
 use Rattle.plai_repair.proofs.Compared.{both, told}
 use Rattle.plai_repair.proofs.Entries.{entry_is, entry_parts}
-use Rattle.plai_repair.proofs.quiet.same_entry.Goals as goal
+use Rattle.plai_repair.proofs.equal.same_entry.Goals as goal
 
 pub returns : goal.returns
 returns c =
