@@ -5,15 +5,18 @@ ghost use Rattle.plai_analysis.specs.Table.{IsTextTable};
 ghost use Rattle.plai_analysis.specs.Causes.{HasCause};
 ghost use Rattle.plai_analysis.specs.Kept.{IsKeptTable};
 ghost use Rattle.plai_analysis.specs.Work.{HasEnded, HasStopped};
+ghost use Rattle.plai_repair.specs.Lost.{AreTouched};
 ghost use Rattle.plai_session.specs.Sessions.{IsTableOf, IsAnalysed, program_of, texts_in};
 ghost use Rattle.plai_session.specs.Work.{IsWorkOf, IsCutOff};
 
 use crate::answer::EditAnswer;
+use indexmap::IndexSet;
 use plai_analysis::{Analysed, analyse, analyse_again};
 use plai_base::Steps;
 use plai_clauses::Program;
 use plai_domain::{Domain, Work, WorkEntry};
 use plai_fix::SolveFail;
+use plai_terms::PredKey;
 use std::alloc::{AllocError, Global};
 use std::hash::Hash;
 use std::sync::ledger::Ledger;
@@ -25,17 +28,20 @@ pub struct Answered<V: Eq + Hash + Drop> {
     pub answer: EditAnswer,
 }
 
-/// Analyses the program from what is kept of the analysis of the program `was`, or from no row where nothing is kept.
+/// Analyses the program from what is kept of the analysis of the program `was`, or from no row where nothing is kept. The edit
+/// from the one to the other touches these predicates.
 fn analyse_from<D: Domain, W: Work, L: Ledger>(
     alloc: Global,
     domain: &D,
     was: &Program,
     kept: Option<Analysed<D::Value>>,
     program: &Program,
+    touched: &IndexSet<PredKey>,
     limit: u64,
     work: &mut W,
     steps: &mut Steps<L>,
 ) -> Result<Analysed<D::Value>, SolveFail>
+    requires touched { AreTouched was.now program.now touched.now.keys }
     requires own { IfSome kept (λ a. IsTableOf (D.plain domain.now) limit was.now a.texts) }
     requires worked { IfSome kept (λ a. IsKeptTable D.value_of (D.plain domain.now) was.now limit a.table.rows a.arcs) }
     ensures table { IfOk result (λ analysed. IsTextTable (D.plain domain.now) program.now limit analysed.texts) }
@@ -46,7 +52,9 @@ fn analyse_from<D: Domain, W: Work, L: Ledger>(
     ensures stopped { IfErr result (HasStopped (D.plain domain.now) (program_of was.now kept) program.now limit (W.entries work.old) (W.entries work.new) (steps.new - steps.old)) }
 {
     match kept {
-        Some(kept) => analyse_again(alloc, domain, was, kept, program, limit, work, steps),
+        Some(kept) => analyse_again(
+            alloc, domain, was, kept, program, touched, limit, work, steps,
+        ),
         None => analyse(alloc, domain, program, limit, work, steps),
     }
 }
@@ -59,11 +67,13 @@ pub fn analyse_edit<D: Domain, W: Work, L: Ledger>(
     was: &Program,
     kept: Option<Analysed<D::Value>>,
     program: &Program,
+    touched: &IndexSet<PredKey>,
     limit: u64,
     number: u64,
     work: &mut W,
     steps: &mut Steps<L>,
 ) -> Result<Answered<D::Value>, AllocError>
+    requires touched { AreTouched was.now program.now touched.now.keys }
     requires own { IfSome kept (λ a. IsTableOf (D.plain domain.now) limit was.now a.texts) }
     requires worked { IfSome kept (λ a. IsKeptTable D.value_of (D.plain domain.now) was.now limit a.table.rows a.arcs) }
     ensures answer { IfOk result (λ answered. IsAnalysed (D.plain domain.now) limit program.now (texts_in answered.analysed) answered.answer) }
@@ -72,7 +82,9 @@ pub fn analyse_edit<D: Domain, W: Work, L: Ledger>(
     ensures cut_off { OnErr result (IsCutOff (D.plain domain.now) limit (program_of was.now kept) program.now number (W.entries work.old) (W.entries work.new)) }
 {
     work.note(alloc, &WorkEntry::Mark(number))?;
-    match analyse_from(alloc, domain, was, kept, program, limit, work, steps) {
+    match analyse_from(
+        alloc, domain, was, kept, program, touched, limit, work, steps,
+    ) {
         Ok(analysed) => Ok(Answered {
             analysed: Some(analysed),
             answer: EditAnswer::Table,

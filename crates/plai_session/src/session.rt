@@ -6,18 +6,21 @@ ghost use Rattle.plai_assert.specs.Verdicts.{verdicts_of};
 ghost use Rattle.plai_eval.specs.LeastTable.{IsLeastTable};
 ghost use Rattle.plai_script.specs.Edits.{edited};
 ghost use Rattle.plai_script.specs.Readable.{IsReadableEdit};
+ghost use Rattle.plai_repair.specs.Lost.{AreTouched};
 ghost use Rattle.plai_session.specs.Work.{IsWorkOf, IsCutOff};
 ghost use Rattle.plai_session.specs.Sessions.{IsTableOf, AreRowsGiven, IsAnalysed, IsEdited, IsLost, IsRefusal, kept_program};
 
 use crate::analysis::{Answered, analyse_edit};
 use crate::answer::EditAnswer;
+use indexmap::IndexSet;
 use plai_analysis::{Analysed, rows_of_table};
 use plai_assert::Verdict;
 use plai_base::Steps;
 use plai_clauses::Program;
 use plai_domain::{Domain, Work};
 use plai_render::{PlainRow, TextTable};
-use plai_script::{Edit, EditFail, apply};
+use plai_script::{Edit, EditFail, apply_noting};
+use plai_terms::PredKey;
 use std::alloc::{AllocError, Global};
 use std::marker::Model;
 use std::sync::ledger::Ledger;
@@ -62,8 +65,9 @@ impl<D: Domain> Session<D> {
         ensures work { IfOk result (λ opened. IsWorkOf (D.plain domain) limit None program 0 (W.entries work.old) (W.entries work.new) (steps.new - steps.old) opened.1) }
         ensures cut_off { OnErr result (IsCutOff (D.plain domain) limit None program 0 (W.entries work.old) (W.entries work.new)) }
     {
+        let touched = IndexSet::new(alloc);
         let Answered { analysed, answer } = analyse_edit(
-            alloc, &domain, &program, None, &program, limit, 0, work, steps,
+            alloc, &domain, &program, None, &program, &touched, limit, 0, work, steps,
         )?;
         let session = Session {
             domain,
@@ -108,8 +112,9 @@ impl<D: Domain> Session<D> {
         if self.lost {
             return Err(AllocError);
         }
-        match apply(alloc, &self.program, edit) {
-            Ok(program) => self.take_over(alloc, number, program, work, steps),
+        let mut touched = IndexSet::new(alloc);
+        match apply_noting(alloc, &self.program, edit, &mut touched) {
+            Ok(program) => self.take_over(alloc, number, program, &touched, work, steps),
             Err(EditFail::Refused(cause)) => Ok(EditAnswer::Refused(cause)),
             Err(EditFail::Memory) => {
                 self.lose();
@@ -118,16 +123,19 @@ impl<D: Domain> Session<D> {
         }
     }
 
-    /// Puts the program in the place of the present one, with what its analysis gives, which takes what is kept of the one before.
+    /// Puts the program in the place of the present one, with what its analysis gives, which takes what is kept of the one
+    /// before. The edit from that one touches these predicates.
     fn take_over<W: Work, L: Ledger>(
         &mut self,
         alloc: Global,
         number: u64,
         program: Program,
+        touched: &IndexSet<PredKey>,
         work: &mut W,
         steps: &mut Steps<L>,
     ) -> Result<EditAnswer, AllocError>
-        requires { self.old.lost ≡ false }
+        requires found { self.old.lost ≡ false }
+        requires touched { AreTouched self.old.program program touched.now.keys }
         ensures answer { IfOk result (λ answer. (self.new.program ≡ program) × (self.new.domain ≡ self.old.domain) × (self.new.limit ≡ self.old.limit) × (self.new.lost ≡ false)
             × IsAnalysed (D.plain self.old.domain) self.old.limit program self.new.table answer) }
         ensures work { IfOk result (IsWorkOf (D.plain self.old.domain) self.old.limit (kept_program self.old) program number (W.entries work.old) (W.entries work.new) (steps.new - steps.old)) }
@@ -141,6 +149,7 @@ impl<D: Domain> Session<D> {
             &self.program,
             kept,
             &program,
+            touched,
             self.limit,
             number,
             work,
