@@ -5,7 +5,7 @@ use Rattle.plai_domain.specs.Plain.{PlainDomain}
 use Rattle.plai_clauses.specs.Program.{ProgramView}
 use Rattle.plai_fix.specs.declared.solve_fail.SolveFail.{SolveFail}
 use Rattle.plai_fix.specs.declared.solve_fail.SolveFail.TheVariants.{Memory, Rows, Groups}
-use Rattle.plai_fix.specs.Told.{PlainRow}
+use Rattle.plai_fix_rows.specs.Told.{PlainRow}
 use Rattle.plai_fix.specs.Stops.{Stops}
 use Rattle.plai_analysis.specs.Fails.{fail_of}
 use Rattle.plai_analysis.specs.Starts.{IsStart}

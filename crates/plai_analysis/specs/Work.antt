@@ -8,7 +8,7 @@ use Rattle.plai_clauses.specs.Program.{ProgramView}
 use Rattle.plai_eval.specs.Meaning.{as_domain, as_program}
 use Rattle.plai_rounds.specs.declared.analyse_fail.AnalyseFail.{AnalyseFail}
 use Rattle.plai_rounds.specs.declared.analyse_fail.AnalyseFail.TheVariants.{Memory}
-use Rattle.plai_fix.specs.Told.{PlainRow, work_over, HasLog}
+use Rattle.plai_fix_rows.specs.Told.{PlainRow, work_over, HasLog}
 use Rattle.plai_fix.specs.Stops.{Stops}
 use Rattle.plai_analysis.specs.Fails.{stop_of}
 use Rattle.plai_analysis.specs.Starts.{IsStart}
