@@ -14,7 +14,7 @@ use Rattle.plai_clauses.specs.Program.{ProgramView}
 use Rattle.plai_clauses.specs.WellFormed.{IsWellFormed}
 use Rattle.plai_eval.specs.Meaning.{as_domain, as_program}
 use Rattle.plai_eval.proofs.Lawful.{lawful_at}
-use Rattle.plai_fix.specs.Told.{PlainRow, work_over}
+use Rattle.plai_fix_rows.specs.Told.{PlainRow, work_over}
 use Rattle.plai_analysis.specs.Starts.{IsStart}
 use Rattle.plai_analysis.specs.Caused.{AreEvaluatedByCause, IsCarefulStart}
 

@@ -33,8 +33,8 @@ use Rattle.plai_eval.proofs.Lawful.{lawful_at, limits_at}
 use Rattle.plai_eval.proofs.Over.{over_is}
 use Rattle.plai_fix.specs.declared.solve_fail.SolveFail.{SolveFail}
 use Rattle.plai_fix.specs.declared.solve_fail.SolveFail.TheVariants.{Memory, Rows, Groups}
-use Rattle.plai_fix.specs.WorkStates.{clause_at}
-use Rattle.plai_fix.specs.Told.{PlainRow, work_over}
+use Rattle.plai_fix_laws.specs.WorkStates.{clause_at}
+use Rattle.plai_fix_rows.specs.Told.{PlainRow, work_over}
 use Rattle.plai_fix.specs.Stops.{IsOverBehind, Stops}
 use Rattle.plai_analysis.specs.Starts.{IsStart, AreFine}
 use Rattle.plai_analysis.specs.Causes.{HasWorked, IsAskedFor, AreTooMany, IsOverThere, HasCause}

@@ -14,12 +14,12 @@ use Rattle.plai_eval.specs.Meaning.{as_domain, as_program}
 use Rattle.plai_table.specs.Rows.{TableRow}
 use Rattle.plai_arcs.specs.declared.arcs.Arcs.{Arcs}
 use Rattle.plai_arcs.specs.Arcs.{is_dirty, is_call}
-use Rattle.plai_fix.specs.WorkStates.{KeepsRow, AtBoth, clause_at}
-use Rattle.plai_fix.specs.Tables.{kept_row, kept_rows, state_of}
-use Rattle.plai_fix.specs.Told.{PlainRow, work_over}
+use Rattle.plai_fix_laws.specs.WorkStates.{KeepsRow, AtBoth, clause_at}
+use Rattle.plai_fix_rows.specs.Tables.{kept_row, kept_rows, state_of}
+use Rattle.plai_fix_rows.specs.Told.{PlainRow, work_over}
 use Rattle.plai_fix.specs.Stops.{IsSolvedBy}
-use Rattle.plai_fix.proofs.Lists.{item_slice}
-use Rattle.plai_fix.proofs.Places.{item_map, has_some}
+use Rattle.plai_fix_laws.proofs.Lists.{item_slice}
+use Rattle.plai_fix_laws.proofs.Places.{item_map, has_some}
 use Rattle.plai_repair.specs.Reached.{AreCallsWithin, KeepsReached}
 use Rattle.plai_repair.proofs.Results.{IsRestored, restored_anew, restored_again}
 use Rattle.plai_analysis.specs.Kept.{IsKeptTable}

@@ -43,12 +43,11 @@ use Rattle.plai_table.specs.Rows.{TableRow}
 use Rattle.plai_arcs.specs.declared.arcs.Arcs.{Arcs}
 use Rattle.plai_analysis.specs.Table.{IsTextTable}
 use Rattle.plai_theory.proofs.Snapshots.{in_map}
-use Rattle.plai_fix.proofs.Lists.{length_map}
+use Rattle.plai_fix_laws.proofs.Lists.{length_map, slice_item}
 use Rattle.plai_repair.proofs.Narrow.{reached_narrow}
-use Rattle.plai_fix.specs.WorkStates.{KeptRow, IsNamed}
-use Rattle.plai_fix.specs.Tables.{key_name, kept_row, kept_rows}
-use Rattle.plai_fix.proofs.Lists.{slice_item}
-use Rattle.plai_fix.proofs.Places.{item_map, has_some}
+use Rattle.plai_fix_laws.specs.WorkStates.{KeptRow, IsNamed}
+use Rattle.plai_fix_rows.specs.Tables.{key_name, kept_row, kept_rows}
+use Rattle.plai_fix_laws.proofs.Places.{item_map, has_some}
 use Rattle.plai_repair.proofs.Results.{named_row}
 use Rattle.plai_analysis.specs.Kept.{IsKeptTable}
 use Rattle.plai_analysis.specs.Output.{plain_row, IsFitRow, AreFit, IsPlainTable}

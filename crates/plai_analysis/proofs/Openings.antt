@@ -27,12 +27,12 @@ use Rattle.plai_eval.specs.Meaning.{as_domain, as_program}
 use Rattle.plai_eval.specs.LeastTable as order
 use Rattle.plai_eval.proofs.One.{strict}
 use Rattle.plai_eval.proofs.Lawful.{lawful_at}
-use Rattle.plai_fix.specs.WorkStates.{KeptRow, Keeping, Keeps, KeepsRow, AtBoth, kept_source}
-use Rattle.plai_fix.specs.Logs.{Opens}
-use Rattle.plai_fix.specs.Tables.{state_of}
-use Rattle.plai_fix.specs.Told.{row_under, work_over}
-use Rattle.plai_fix.proofs.Places.{found_at, same_source}
-use Rattle.plai_fix.proofs.Ends as ends
+use Rattle.plai_fix_laws.specs.WorkStates.{KeptRow, Keeping, Keeps, KeepsRow, AtBoth, kept_source}
+use Rattle.plai_fix_laws.specs.Logs.{Opens}
+use Rattle.plai_fix_rows.specs.Tables.{state_of}
+use Rattle.plai_fix_rows.specs.Told.{row_under, work_over}
+use Rattle.plai_fix_laws.proofs.Places.{found_at, same_source}
+use Rattle.plai_fix_laws.proofs.Ends as ends
 use Rattle.plai_repair.specs.Opened.{IsOpened}
 use Rattle.plai_analysis.specs.Starts.{IsStart}
 use Rattle.plai_analysis.specs.Solved.{opened_from, opened_rows}

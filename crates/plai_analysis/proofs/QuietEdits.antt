@@ -17,9 +17,9 @@ use Rattle.plai_eval.specs.Meaning.{as_domain, as_program}
 use Rattle.plai_eval.specs.LeastTable as order
 use Rattle.plai_eval.specs.Stops.{IsOver}
 use Rattle.plai_eval.proofs.One.{strict}
-use Rattle.plai_fix.specs.Tables.{kept_row}
-use Rattle.plai_fix.proofs.Lists.{slice_item}
-use Rattle.plai_fix.proofs.Places.{item_map}
+use Rattle.plai_fix_rows.specs.Tables.{kept_row}
+use Rattle.plai_fix_laws.proofs.Lists.{slice_item}
+use Rattle.plai_fix_laws.proofs.Places.{item_map}
 use Rattle.plai_repair.specs.Opened.{IsWholeTable}
 use Rattle.plai_repair.specs.Unchanged.{AreUnchanged}
 use Rattle.plai_repair.proofs.StillWhole.{unchanged_quiet, still_whole, still_not_over}

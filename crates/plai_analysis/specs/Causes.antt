@@ -17,8 +17,8 @@ use Rattle.plai_eval.specs.LeastTable.{row_of, IsLeastTable}
 use Rattle.plai_eval.specs.Stops.{IsOver}
 use Rattle.plai_fix.specs.declared.solve_fail.SolveFail.{SolveFail}
 use Rattle.plai_fix.specs.declared.solve_fail.SolveFail.TheVariants as solve_fail
-use Rattle.plai_fix.specs.WorkStates.{clause_at}
-use Rattle.plai_fix.specs.Told.{PlainRow, work_over}
+use Rattle.plai_fix_laws.specs.WorkStates.{clause_at}
+use Rattle.plai_fix_rows.specs.Told.{PlainRow, work_over}
 use Rattle.plai_analysis.specs.Starts.{IsStart}
 
 -- legal work on the program, from no rows or from those that an edit keeps, leads to these rows

@@ -10,10 +10,11 @@ use Rattle.plai_clauses.specs.Program.{ProgramView, clauses_of}
 use Rattle.plai_eval.specs.Meaning.{as_domain}
 use Rattle.plai_table.specs.Rows.{TableRow}
 use Rattle.plai_arcs.specs.declared.arcs.Arcs.{Arcs}
-use Rattle.plai_fix.specs.WorkStates.{KeptRow, Keeping, kept_source}
-use Rattle.plai_fix.specs.Tables.{state_of}
-use Rattle.plai_fix.specs.Told.{PlainRow, work_over}
-use Rattle.plai_fix.specs.Stops.{IsSolvedBy, AreMarked}
+use Rattle.plai_fix_laws.specs.WorkStates.{KeptRow, Keeping, kept_source}
+use Rattle.plai_fix_rows.specs.Tables.{state_of}
+use Rattle.plai_fix_rows.specs.Told.{PlainRow, work_over}
+use Rattle.plai_fix.specs.Stops.{IsSolvedBy}
+use Rattle.plai_fix_rows.specs.Marks.{AreMarked}
 use Rattle.plai_analysis.specs.Starts.{IsStart}
 
 -- The kept row of this number as a row under work. A clause is dirty as the arcs say, and where there is none. A clause that is

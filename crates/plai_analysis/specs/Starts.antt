@@ -9,7 +9,7 @@ use Rattle.plai_clauses.specs.WellFormed.{IsWellFormed}
 use Rattle.plai_eval.specs.Meaning.{as_domain, as_program}
 use Rattle.plai_eval.specs.LeastTable as order
 use Rattle.plai_eval.specs.Stops.{IsOver}
-use Rattle.plai_fix.specs.Told.{PlainRow, work_over}
+use Rattle.plai_fix_rows.specs.Told.{PlainRow, work_over}
 
 -- These are the rows that an edit of the one program into the other keeps of its least table: dormant, with their answers and
 -- recorded calls; what their predicates gained is dirty.

@@ -8,7 +8,7 @@ use Rattle.plai_clauses.specs.Program.{ProgramView}
 use Rattle.plai_eval.specs.Meaning.{as_domain, as_program}
 use Rattle.plai_fix.specs.declared.solve_fail.SolveFail.{SolveFail}
 use Rattle.plai_fix.specs.declared.solve_fail.SolveFail.TheVariants.{Memory}
-use Rattle.plai_fix.specs.Told.{PlainRow, work_over, HasLog}
+use Rattle.plai_fix_rows.specs.Told.{PlainRow, work_over, HasLog}
 use Rattle.plai_fix.specs.Stops.{Stops}
 use Rattle.plai_analysis.specs.Caused.{IsCarefulStart}
 use Rattle.plai_analysis.specs.Quiet.{IsQuietAfter}

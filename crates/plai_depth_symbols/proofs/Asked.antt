@@ -18,7 +18,7 @@ use Rattle.plai_eval.specs.LeastTable as order
 use Rattle.plai_eval.proofs.Names.{same_name-refl}
 use Rattle.plai_eval.proofs.One.{strict}
 use Rattle.plai_eval.proofs.Lawful.{lawful_at}
-use Rattle.plai_fix.specs.Told.{PlainRow, work_over}
+use Rattle.plai_fix_rows.specs.Told.{PlainRow, work_over}
 use Rattle.plai_analysis.specs.Starts.{IsStart}
 use Rattle.plai_analysis.specs.Causes.{IsAskedFor}
 use Rattle.plai_depth_laws.specs.DepthK.{skeletons_of, depth_k}

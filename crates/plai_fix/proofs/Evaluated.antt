@@ -13,8 +13,8 @@ use Rattle.plai_clauses.specs.declared.clause.Clause.{Clause}
 use Rattle.plai_eval.specs.Meaning.{row_name, as_domain, as_limits}
 use Rattle.plai_eval.specs.Evaluation.{over_of}
 use Rattle.plai_eval.proofs.Over.{over_is}
-use Rattle.plai_fix.specs.WorkStates.{KeptRow, kept_source}
-use Rattle.plai_fix.specs.Tables.{key_name, answers_of}
+use Rattle.plai_fix_laws.specs.WorkStates.{KeptRow, kept_source}
+use Rattle.plai_fix_rows.specs.Tables.{key_name, answers_of}
 
 -- the theory's name of a row's
 abbrev back : RowName → Name PredKey Abs

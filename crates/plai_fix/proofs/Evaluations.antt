@@ -22,45 +22,33 @@ use Rattle.plai_eval.specs.Answering.{AnswersFit}
 use Rattle.plai_eval.specs.Evaluation.{evaluation}
 use Rattle.plai_eval.specs.Cost.{cost_of}
 use Rattle.plai_eval.proofs.Lawful.{lawful_at}
-use Rattle.plai_fix.specs.declared.change.Change.TheVariants.{Nothing}
+use Rattle.plai_fix_rows.specs.declared.change.Change.TheVariants.{Nothing}
 use Rattle.plai_fix.specs.declared.solve_fail.SolveFail.{SolveFail}
 use Rattle.plai_fix.specs.declared.solve_fail.SolveFail.TheVariants as solve_fail
-use Rattle.plai_fix.specs.WorkStates.{KeptRow, Keeping, Keeps, IsNamed, is_live, clause_at}
-use Rattle.plai_fix.specs.Changes.{Clears}
-use Rattle.plai_fix.specs.Logs.{IsWorking}
-use Rattle.plai_fix.specs.Pairs.{HasEvaluated}
-use Rattle.plai_fix.specs.Measures.{kept_room, kept_ranks}
-use Rattle.plai_fix.specs.Tables.{answers_of}
+use Rattle.plai_fix_laws.specs.WorkStates.{KeptRow, Keeping, Keeps, IsNamed, is_live, clause_at}
+use Rattle.plai_fix_laws.specs.Changes.{Clears}
+use Rattle.plai_fix_laws.specs.Logs.{IsWorking}
+use Rattle.plai_fix_laws.specs.Pairs.{HasEvaluated}
+use Rattle.plai_fix_laws.specs.Measures.{kept_room, kept_ranks}
+use Rattle.plai_fix_rows.specs.Tables.{answers_of}
 use Rattle.plai_fix.specs.Evaluating.{IsEvaluation, TellsOver}
-use Rattle.plai_fix.specs.Told.{start_of, Origin, HasLog}
-use Rattle.plai_fix.specs.Solving.{IsAtWork, IsPastEvaluation}
-use Rattle.plai_fix.specs.Moves.{Moves}
+use Rattle.plai_fix_rows.specs.Told.{start_of, Origin, HasLog}
+use Rattle.plai_fix_rows.specs.Solving.{IsAtWork, IsPastEvaluation}
+use Rattle.plai_fix_rows.specs.Moves.{Moves}
 use Rattle.plai_fix.specs.Stops.{IsOverBehind, Stops}
-use Rattle.plai_fix.proofs.Lists.{slice_item, item_within}
-use Rattle.plai_fix.proofs.Places.{found_at}
-use Rattle.plai_fix.proofs.Linked.{row_under, live_at}
-use Rattle.plai_fix.proofs.Lowering.{evaluated_dirties}
-use Rattle.plai_fix.proofs.Pairs.{evaluates}
-use Rattle.plai_fix.proofs.Values.{kept_answers, name_is_value, answer_is_value}
-use Rattle.plai_fix.proofs.Telling.{has_more, has_less}
+use Rattle.plai_fix_laws.proofs.Lists.{slice_item, item_within}
+use Rattle.plai_fix_laws.proofs.Places.{found_at}
+use Rattle.plai_fix_laws.proofs.Linked.{row_under, live_at, named_row}
+use Rattle.plai_fix_laws.proofs.Lowering.{evaluated_dirties}
+use Rattle.plai_fix_laws.proofs.Pairs.{evaluates}
+use Rattle.plai_fix_laws.proofs.Values.{kept_answers, name_is_value, answer_is_value}
+use Rattle.plai_fix_rows.proofs.Telling.{has_more, has_less}
 
 -- a clause at a place is one of the clauses
 pub clause_in : {A : Type 0} (xs : List A) (i : ℕ) (x : A) → slice_get xs i ≡ Some x → IsIn x xs
 clause_in [] i x e = cc
 clause_in (y ∷ xs) zero x e = let s : y ≡ x = cc in inl s
 clause_in (y ∷ xs) (suc i) x e = inr (clause_in xs i x e)
-
--- the row under work of a named row
-pub named_row : (d : Domain) (g : Program d) (laws : IsLawful d g) (k : Keeping d) (open_pair : Option (ℕ × ℕ)) (rows : List (WorkRow d))
-    → Keeps d g k open_pair rows
-    → (n : ℕ) (x : Name d.Pred d.Value) → IsNamed d k.rows n x → (r : WorkRow d) × (item rows n ≡ Some r) × (r.name ≡ x) × ((i : ℕ) (c : d.Clause)
-    → item (g.clauses r.name.pred) i ≡ Some c → k.dirty n (suc i) ≡ r.dirty i)
-named_row d g laws k open_pair rows keeps n x named = at (item k.rows n) refl named
-  where
-    at : (o : Option (KeptRow d)) → item k.rows n ≡ o → HasSome (λ (z : KeptRow d). z.name ≡ x) o → (r : WorkRow d) × (item rows n ≡ Some r) × (r.name ≡ x)
-        × ((i : ℕ) (c : d.Clause) → item (g.clauses r.name.pred) i ≡ Some c → k.dirty n (suc i) ≡ r.dirty i)
-    at None e h = absurd h
-    at (Some kept) e h = let (r, f, keep) = row_under d g laws k open_pair rows keeps n kept e in (r, f, sym keep.name ∙ h, keep.dirty)
 
 -- the clause of a dirty pair is there
 pub clause_there : (d : Domain) (g : Program d) (laws : IsLawful d g) (k : Keeping d) (open_pair : Option (ℕ × ℕ)) (rows : List (WorkRow d))

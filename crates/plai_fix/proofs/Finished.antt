@@ -14,18 +14,18 @@ use Rattle.plai_clauses.specs.Program.{ProgramView}
 use Rattle.plai_clauses.specs.WellFormed.{IsWellFormed}
 use Rattle.plai_eval.specs.Meaning.{as_domain, as_limits, as_program}
 use Rattle.plai_eval.proofs.Lawful.{lawful_at}
-use Rattle.plai_fix.specs.WorkStates.{KeptRow, Keeping, IsNamed, IsClean, is_live}
-use Rattle.plai_fix.specs.Logs.{Opens, IsWorking}
-use Rattle.plai_fix.proofs.Linked.{row_under, live_at}
-use Rattle.plai_fix.specs.Told.{start_of, Origin, HasLog, told_after}
-use Rattle.plai_fix.specs.Solving.{IsAtWork, HasLiveRow, AreOpened}
+use Rattle.plai_fix_laws.specs.WorkStates.{KeptRow, Keeping, IsNamed, IsClean, is_live, HasLiveRow, AreOpened}
+use Rattle.plai_fix_laws.specs.Logs.{Opens, IsWorking}
+use Rattle.plai_fix_laws.proofs.Linked.{row_under, live_at}
+use Rattle.plai_fix_rows.specs.Told.{start_of, Origin, HasLog, told_after}
+use Rattle.plai_fix_rows.specs.Solving.{IsAtWork}
 use Rattle.plai_fix.specs.Stops.{AreClean, IsSolvedBy, IsStoppedAt}
-use Rattle.plai_fix.proofs.Places.{place_of}
-use Rattle.plai_fix.proofs.Steps.{row_at}
-use Rattle.plai_fix.proofs.Ends.{begins, stops}
-use Rattle.plai_fix.proofs.Placements.{ends_here, stops_entry}
-use Rattle.plai_fix.proofs.Values.{one_row}
-use Rattle.plai_fix.proofs.Telling.{has_less}
+use Rattle.plai_fix_laws.proofs.Places.{place_of}
+use Rattle.plai_fix_laws.proofs.Steps.{row_at}
+use Rattle.plai_fix_laws.proofs.Ends.{begins, stops}
+use Rattle.plai_fix_laws.proofs.Placements.{ends_here, stops_entry}
+use Rattle.plai_fix_laws.proofs.Values.{one_row}
+use Rattle.plai_fix_rows.proofs.Telling.{has_less}
 
 module _ (p : PlainDomain) (laws : domain.IsLawful p) (program : ProgramView) (good : IsWellFormed program) (limit : ℕ)
     (begun : Origin) (told : Option (List WorkEntry)) (steps : ℕ)

@@ -18,19 +18,19 @@ use Rattle.plai_clauses.specs.Program.{ProgramView}
 use Rattle.plai_clauses.specs.WellFormed.{IsWellFormed}
 use Rattle.plai_eval.specs.Meaning.{row_name, as_domain, as_limits, as_program}
 use Rattle.plai_eval.proofs.Lawful.{lawful_at}
-use Rattle.plai_fix.specs.declared.change.Change.TheVariants.{Grown, Opened}
-use Rattle.plai_fix.specs.WorkStates.{KeptRow, Keeping, Keeps}
-use Rattle.plai_fix.specs.Changes.{Answers}
-use Rattle.plai_fix.specs.Pairs.{HasEvaluated, IsWaiting}
-use Rattle.plai_fix.specs.Told.{start_of, Origin}
-use Rattle.plai_fix.specs.Solving.{IsPastEvaluation, IsPastGrowth}
-use Rattle.plai_fix.specs.Moves.{Shifts, growth_of}
-use Rattle.plai_fix.proofs.Places.{found_at, has_some}
-use Rattle.plai_fix.proofs.Linked.{row_under}
-use Rattle.plai_fix.proofs.Lowering.{first_answer, later_room, later_ranks}
-use Rattle.plai_fix.proofs.Pairs.{settles, grows}
-use Rattle.plai_fix.proofs.Values.{answer_is_value, name_is_value, kept_answers}
-use Rattle.plai_fix.proofs.Telling.{has_more, has_less}
+use Rattle.plai_fix_rows.specs.declared.change.Change.TheVariants.{Grown, Opened}
+use Rattle.plai_fix_laws.specs.WorkStates.{KeptRow, Keeping, Keeps}
+use Rattle.plai_fix_laws.specs.Changes.{Answers}
+use Rattle.plai_fix_laws.specs.Pairs.{HasEvaluated, IsWaiting}
+use Rattle.plai_fix_rows.specs.Told.{start_of, Origin}
+use Rattle.plai_fix_rows.specs.Solving.{IsPastEvaluation, IsPastGrowth}
+use Rattle.plai_fix_rows.specs.Moves.{Shifts, growth_of}
+use Rattle.plai_fix_laws.proofs.Places.{found_at, has_some}
+use Rattle.plai_fix_laws.proofs.Linked.{row_under}
+use Rattle.plai_fix_laws.proofs.Lowering.{first_answer, later_room, later_ranks}
+use Rattle.plai_fix_laws.proofs.Pairs.{settles, grows}
+use Rattle.plai_fix_laws.proofs.Values.{answer_is_value, name_is_value, kept_answers}
+use Rattle.plai_fix_rows.proofs.Telling.{has_more, has_less}
 
 join_none : (d : Domain) (o : Option d.Value) → join_of d o None ≡ o
 unfolding join_of

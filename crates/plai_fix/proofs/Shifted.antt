@@ -1,13 +1,13 @@
 -- What parts of the work lower one after another.
 use Rattle.std.proofs.Common.{◌≡◌, ℕ, Bool, refl, ap, ◌∙◌, arith}
 use Rattle.plai_theory.specs.Domain.{Domain, Program}
-use Rattle.plai_fix.specs.declared.change.Change.{Change}
-use Rattle.plai_fix.specs.declared.change.Change.TheVariants.{Nothing, Grown, Opened}
-use Rattle.plai_fix.specs.WorkStates.{Keeping}
-use Rattle.plai_fix.specs.Changes.{SetsCalls}
-use Rattle.plai_fix.specs.Measures.{kept_room, kept_ranks}
-use Rattle.plai_fix.specs.Moves.{both_of, Shifts, Moves, Rests, Settles}
-use Rattle.plai_fix.proofs.Lowering.{set_dirties}
+use Rattle.plai_fix_rows.specs.declared.change.Change.{Change}
+use Rattle.plai_fix_rows.specs.declared.change.Change.TheVariants.{Nothing, Grown, Opened}
+use Rattle.plai_fix_laws.specs.WorkStates.{Keeping}
+use Rattle.plai_fix_laws.specs.Changes.{SetsCalls}
+use Rattle.plai_fix_laws.specs.Measures.{kept_room, kept_ranks}
+use Rattle.plai_fix_rows.specs.Moves.{both_of, Shifts, Moves, Rests, Settles}
+use Rattle.plai_fix_laws.proofs.Lowering.{set_dirties}
 
 module _ (d : Domain) (g : Program d) (limit : ℕ) (rank : d.Pred → d.Value → ℕ) where
   shift_sets : (k new : Keeping d) (n i : ℕ) (rows : ℕ → Bool) → SetsCalls d k new n i rows → Shifts d g limit rank k new Nothing

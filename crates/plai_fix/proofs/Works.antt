@@ -13,17 +13,17 @@ use Rattle.plai_clauses.specs.Program.{ProgramView}
 use Rattle.plai_clauses.specs.WellFormed.{IsWellFormed}
 use Rattle.plai_eval.specs.Meaning.{as_domain, as_limits, as_program}
 use Rattle.plai_eval.proofs.Lawful.{lawful_at}
-use Rattle.plai_fix.specs.WorkStates.{KeptRow, Keeping, Keeps, IsNamed, is_live}
-use Rattle.plai_fix.specs.Changes.{SetsCalls}
-use Rattle.plai_fix.specs.LookUps.{Looks}
-use Rattle.plai_fix.specs.Pairs.{Links, HasEvaluated}
-use Rattle.plai_fix.specs.Queues.{IsQueued}
-use Rattle.plai_fix.specs.Told.{start_of, Origin}
-use Rattle.plai_fix.specs.Solving.{IsPastEvaluation, IsPastGrowth, AreOfRows}
-use Rattle.plai_fix.proofs.Lists.{item_within}
-use Rattle.plai_fix.proofs.LookedUp.{looks_sound, looks_whole, looks_missing}
-use Rattle.plai_fix.proofs.Pairs.{links}
-use Rattle.plai_fix.proofs.Telling.{has_less}
+use Rattle.plai_fix_laws.specs.WorkStates.{KeptRow, Keeping, Keeps, IsNamed, is_live, AreOfRows}
+use Rattle.plai_fix_laws.specs.Changes.{SetsCalls}
+use Rattle.plai_fix_laws.specs.LookUps.{Looks}
+use Rattle.plai_fix_laws.specs.Pairs.{Links, HasEvaluated}
+use Rattle.plai_fix_laws.specs.Queues.{IsQueued}
+use Rattle.plai_fix_rows.specs.Told.{start_of, Origin}
+use Rattle.plai_fix_rows.specs.Solving.{IsPastEvaluation, IsPastGrowth}
+use Rattle.plai_fix_laws.proofs.Lists.{item_within}
+use Rattle.plai_fix_laws.proofs.LookedUp.{looks_sound, looks_whole, looks_missing}
+use Rattle.plai_fix_laws.proofs.Pairs.{links}
+use Rattle.plai_fix_rows.proofs.Telling.{has_less}
 
 -- the rows that were found are those of called names, and the others are missing
 pub looks_links : (d : Domain) (kept : List (KeptRow d)) (called : List (Name d.Pred d.Value)) (rows : List ℕ) (missing : List (Name d.Pred d.Value))

@@ -11,8 +11,8 @@ use Rattle.plai_eval.specs.Meaning.{row_name, as_domain, as_limits}
 use Rattle.plai_eval.specs.Evaluation.{evaluation}
 use Rattle.plai_fix.specs.declared.solve_fail.SolveFail.{SolveFail}
 use Rattle.plai_fix.specs.declared.solve_fail.SolveFail.TheVariants as solve_fail
-use Rattle.plai_fix.specs.WorkStates.{KeptRow, kept_source}
-use Rattle.plai_fix.specs.Tables.{answers_of}
+use Rattle.plai_fix_laws.specs.WorkStates.{KeptRow, kept_source}
+use Rattle.plai_fix_rows.specs.Tables.{answers_of}
 
 -- An answer or none, and the names that the clause calls. No set that it forms has too many groups.
 pub record IsEvaluation (p : PlainDomain) (kept : List (KeptRow (as_domain p))) (clause : Clause) (call : Abs) (given : Option Abs) (called : List (Name PredKey Abs)) : Type 0 where

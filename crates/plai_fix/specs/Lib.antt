@@ -1,14 +1,2 @@
-pub mod WorkStates
-pub mod Changes
-pub mod Logs
-pub mod Tables
 pub mod Evaluating
-pub mod LookUps
-pub mod Marks
-pub mod Pairs
-pub mod Measures
-pub mod Queues
-pub mod Told
-pub mod Solving
-pub mod Moves
 pub mod Stops

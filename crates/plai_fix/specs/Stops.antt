@@ -1,6 +1,6 @@
 -- How work on a program ends, and why it comes to no end (Hermenegildo, Puebla, Marriott and Stuckey 2000).
-use Rattle.std.specs.Prelude.{◌≡◌, ◌↔◌, ℕ, ◌+◌, ◌-◌, ◌≤◌, true, false, List, Option, Some, None, slice_get}
-use Rattle.plai_theory.specs.Words.{IsIn, item}
+use Rattle.std.specs.Prelude.{◌≡◌, ℕ, ◌+◌, ◌-◌, ◌≤◌, true, false, List, Option, Some, None}
+use Rattle.plai_theory.specs.Words.{item}
 use Rattle.plai_theory.specs.Domain.{Domain, Program, Name}
 use Rattle.plai_theory.specs.Evaluation.{NameOf}
 use Rattle.plai_theory.specs.LegalWork.{WorkRow, LogEntry, find, present_source, live_count, IsLegalLog, Work, after_all}
@@ -13,15 +13,13 @@ use Rattle.plai_domain.specs.declared.work.WorkEntry.{WorkEntry}
 use Rattle.plai_domain.specs.Plain.{PlainDomain}
 use Rattle.plai_clauses.specs.declared.clause.Clause.{Clause}
 use Rattle.plai_clauses.specs.Program.{ProgramView}
-use Rattle.plai_table.specs.Rows.{TableRow}
 use Rattle.plai_eval.specs.Meaning.{row_name, as_domain, as_limits, as_program}
 use Rattle.plai_eval.specs.Evaluation.{evaluation}
 use Rattle.plai_eval.specs.Cost.{cost_of}
 use Rattle.plai_fix.specs.declared.solve_fail.SolveFail.{SolveFail}
 use Rattle.plai_fix.specs.declared.solve_fail.SolveFail.TheVariants as solve_fail
-use Rattle.plai_fix.specs.WorkStates.{Keeping, Keeps, clause_at}
-use Rattle.plai_fix.specs.Tables.{key_name}
-use Rattle.plai_fix.specs.Told.{Origin, start_of, HasLog, log_cost}
+use Rattle.plai_fix_laws.specs.WorkStates.{Keeping, Keeps, clause_at}
+use Rattle.plai_fix_rows.specs.Told.{Origin, start_of, HasLog, log_cost}
 
 -- no clause of a live row is dirty
 abbrev pub AreClean : (d : Domain) → Program d → List (WorkRow d) → Type 0
@@ -72,11 +70,3 @@ Stops p program limit begun told steps solve_fail.Memory =
 Stops p program limit begun told steps (solve_fail.Rows n) = (n ≡ limit) × HasLog p program begun.told told steps (IsStoppedAt p program limit (start_of p begun))
 Stops p program limit begun told steps (solve_fail.Groups row number literal place) = HasLog p program begun.told told 0
     (IsOverBehind p program limit (start_of p begun) steps row number literal place)
-
--- the rows that are marked as an entry's are those of these names
-abbrev pub AreMarkedAs : {V : Type 0} → (V → Abs) → List (Name PredKey Abs) → List (TableRow V) → Type 0
-AreMarkedAs {V} value_of names rows = (n : ℕ) (r : TableRow V) → slice_get rows n ≡ Some r → (r.entry ≡ true) ↔ IsIn (key_name value_of r.name) names
-
--- they are those of the program's entries
-abbrev pub AreMarked : {V : Type 0} → (V → Abs) → (p : PlainDomain) → ProgramView → List (TableRow V) → Type 0
-AreMarked value_of p program rows = AreMarkedAs value_of (as_program p program).entries rows

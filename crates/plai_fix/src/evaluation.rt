@@ -10,8 +10,8 @@ ghost use Rattle.plai_eval.specs.Answering.{AnswersFit};
 ghost use Rattle.plai_eval.specs.Cost.{cost_of};
 ghost use Rattle.plai_table.specs.Rows.{names_of};
 ghost use Rattle.plai_eval.specs.Meaning.{as_domain};
-ghost use Rattle.plai_fix.specs.Tables.{key_name, kept_rows, answers_of, state_of};
-ghost use Rattle.plai_fix.specs.Changes.{Clears};
+ghost use Rattle.plai_fix_rows.specs.Tables.{key_name, kept_rows, answers_of, state_of};
+ghost use Rattle.plai_fix_laws.specs.Changes.{Clears};
 ghost use Rattle.plai_fix.specs.Evaluating.{IsEvaluation, TellsOver};
 
 use crate::present::Present;

@@ -4,8 +4,8 @@ ghost use Rattle.plai_theory.specs.Domain.{Name};
 ghost use Rattle.plai_terms.specs.declared.abs.Abs.{Abs};
 ghost use Rattle.plai_terms.specs.declared.pred_key.PredKey.{PredKey};
 ghost use Rattle.plai_eval.specs.Meaning.{as_domain};
-ghost use Rattle.plai_fix.specs.Tables.{key_name, kept_rows};
-ghost use Rattle.plai_fix.specs.LookUps.{Looks};
+ghost use Rattle.plai_fix_rows.specs.Tables.{key_name, kept_rows};
+ghost use Rattle.plai_fix_laws.specs.LookUps.{Looks};
 
 use plai_domain::{Domain, Key};
 use plai_table::Table;

@@ -20,10 +20,11 @@ use Rattle.plai_eval.proofs.One.{strict}
 use Rattle.plai_eval.proofs.Lawful.{lawful_at}
 use Rattle.plai_table.specs.Rows.{TableRow, with_live}
 use Rattle.plai_arcs.specs.declared.arcs.Arcs.{Arcs}
-use Rattle.plai_fix.specs.WorkStates.{KeptRow, IsNamed}
-use Rattle.plai_fix.specs.Tables.{kept_row, kept_rows, state_of}
-use Rattle.plai_fix.specs.Told.{PlainRow, work_over}
-use Rattle.plai_fix.specs.Stops.{IsSolvedBy, AreMarked}
+use Rattle.plai_fix_laws.specs.WorkStates.{KeptRow, IsNamed}
+use Rattle.plai_fix_rows.specs.Tables.{kept_row, kept_rows, state_of}
+use Rattle.plai_fix_rows.specs.Told.{PlainRow, work_over}
+use Rattle.plai_fix.specs.Stops.{IsSolvedBy}
+use Rattle.plai_fix_rows.specs.Marks.{AreMarked}
 use Rattle.plai_repair.specs.Opened.{IsWholeTable}
 use Rattle.plai_repair.specs.Reached.{entry_at, KeepsReached}
 use Rattle.plai_repair.proofs.Ended.{awake, IsCutTo, HasEnded, is_whole}

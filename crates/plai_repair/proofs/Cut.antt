@@ -20,9 +20,9 @@ use Rattle.plai_table.specs.Rows.{TableRow}
 use Rattle.plai_arcs.specs.declared.arcs.Arcs.{Arcs}
 use Rattle.plai_arcs.specs.Arcs.{is_dirty, is_call}
 use Rattle.plai_arcs.specs.Moves.{of_row}
-use Rattle.plai_fix.specs.WorkStates.{KeptRow}
-use Rattle.plai_fix.specs.Tables.{kept_row, kept_rows, state_of}
-use Rattle.plai_fix.proofs.TableRows.{is_there}
+use Rattle.plai_fix_laws.specs.WorkStates.{KeptRow}
+use Rattle.plai_fix_rows.specs.Tables.{kept_row, kept_rows, state_of}
+use Rattle.plai_fix_rows.proofs.TableRows.{is_there}
 use Rattle.plai_repair.specs.Lost.{LosesAt, IsLost, AreLost}
 use Rattle.plai_repair.specs.Removal.{Removes}
 use Rattle.plai_repair.specs.Gained.{is_gained, gained_at}

@@ -14,8 +14,8 @@ use Rattle.plai_theory.proofs.Eval.{same_called}
 use Rattle.plai_theory.proofs.Invariant.{Inv}
 use Rattle.plai_theory.proofs.Logs.{done, need_met, outcome_least}
 use Rattle.plai_arcs.specs.Moves.{of_row}
-use Rattle.plai_fix.specs.WorkStates.{KeptRow, Keeping, Keeps, KeepsRow, clause_at, IsNamed}
-use Rattle.plai_fix.proofs.Places.{have, there, has_some, in_both, place_of, found_at, one_place}
+use Rattle.plai_fix_laws.specs.WorkStates.{KeptRow, Keeping, Keeps, KeepsRow, clause_at, IsNamed}
+use Rattle.plai_fix_laws.proofs.Places.{have, there, has_some, in_both, place_of, found_at, one_place}
 use Rattle.plai_repair.specs.Reached.{IsReached}
 use Rattle.plai_repair.specs.Reached as reached
 use Rattle.plai_repair.specs.Whole.{IsWhole}

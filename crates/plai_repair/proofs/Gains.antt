@@ -8,7 +8,7 @@ use Rattle.plai_theory.proofs.Options.{by_test}
 use Rattle.plai_clauses.specs.Program.{ProgramView, clauses_of}
 use Rattle.plai_clauses.specs.declared.clause.Clause.{Clause}
 use Rattle.plai_table.specs.Rows.{TableRow}
-use Rattle.plai_fix.proofs.Marked.{less, not_lt, is_less, not_less}
+use Rattle.plai_fix_rows.proofs.Marked.{less, not_lt, is_less, not_less}
 use Rattle.plai_repair.specs.Gained.{is_past, is_gained, gained_at}
 
 pub same_test : (p q : Bool) → (p ≡ true → q ≡ true) → (q ≡ true → p ≡ true) → p ≡ q

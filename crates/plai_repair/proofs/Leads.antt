@@ -8,8 +8,8 @@ use Rattle.plai_theory.specs.Tables.{source_of, HasName, IsClosed}
 use Rattle.plai_theory.specs.Edits.{Leads, Stay, Go, IsKept}
 use Rattle.plai_theory.specs.Edits as edits
 use Rattle.plai_theory.proofs.Rows.{item_in, in_item}
-use Rattle.plai_fix.specs.WorkStates.{KeptRow, Keeping, AtBoth, clause_at, IsNamed}
-use Rattle.plai_fix.proofs.Places.{have, has_some}
+use Rattle.plai_fix_laws.specs.WorkStates.{KeptRow, Keeping, AtBoth, clause_at, IsNamed}
+use Rattle.plai_fix_laws.proofs.Places.{have, has_some}
 use Rattle.plai_repair.specs.Lost.{IsLost, Itself, ByCall}
 use Rattle.plai_repair.specs.Whole.{IsWhole}
 use Rattle.plai_repair.proofs.Members.{at_some}

@@ -13,8 +13,8 @@ use Rattle.plai_theory.proofs.Options.{by_test}
 use Rattle.plai_theory.proofs.Rows.{find_name}
 use Rattle.plai_theory.proofs.Edits.{item_append}
 use Rattle.plai_arcs.specs.Moves.{of_row}
-use Rattle.plai_fix.specs.WorkStates.{KeptRow, Keeping, Keeps, KeepsRow, AtBoth, clause_at, IsNamed}
-use Rattle.plai_fix.proofs.Places.{have, there, has_some, item_map, place_of, found_at}
+use Rattle.plai_fix_laws.specs.WorkStates.{KeptRow, Keeping, Keeps, KeepsRow, AtBoth, clause_at, IsNamed}
+use Rattle.plai_fix_laws.proofs.Places.{have, there, has_some, item_map, place_of, found_at}
 use Rattle.plai_repair.specs.Lost.{IsLost}
 use Rattle.plai_repair.specs.Whole.{IsWhole}
 use Rattle.plai_repair.proofs.Members.{at_some}

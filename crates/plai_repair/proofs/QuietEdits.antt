@@ -16,8 +16,8 @@ use Rattle.plai_theory.proofs.Rounds.{below_at}
 use Rattle.plai_theory.proofs.Near.{IsNear}
 use Rattle.plai_theory.proofs.Edits.{quiet_least}
 use Rattle.plai_theory.proofs.Over.{near_over, over_settled}
-use Rattle.plai_fix.specs.WorkStates.{KeptRow, Keeping, clause_at, IsNamed}
-use Rattle.plai_fix.proofs.Places.{has_some}
+use Rattle.plai_fix_laws.specs.WorkStates.{KeptRow, Keeping, clause_at, IsNamed}
+use Rattle.plai_fix_laws.proofs.Places.{has_some}
 use Rattle.plai_repair.specs.Whole.{IsWhole}
 use Rattle.plai_repair.proofs.Leads.{some_is, row_of_name}
 

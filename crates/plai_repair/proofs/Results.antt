@@ -35,11 +35,12 @@ use Rattle.plai_table.specs.Rows.{TableRow}
 use Rattle.plai_arcs.specs.declared.arcs.Arcs.{Arcs}
 use Rattle.plai_theory.proofs.Snapshots.{in_map}
 use Rattle.plai_repair.proofs.Narrow.{reached_narrow}
-use Rattle.plai_fix.specs.WorkStates.{KeptRow, Keeping, IsNamed}
-use Rattle.plai_fix.specs.Tables.{key_name, kept_row, kept_rows, state_of}
-use Rattle.plai_fix.specs.Told.{PlainRow, work_over}
-use Rattle.plai_fix.specs.Stops.{IsSolvedBy, AreMarked}
-use Rattle.plai_fix.proofs.Places.{item_map}
+use Rattle.plai_fix_laws.specs.WorkStates.{KeptRow, Keeping, IsNamed}
+use Rattle.plai_fix_rows.specs.Tables.{key_name, kept_row, kept_rows, state_of}
+use Rattle.plai_fix_rows.specs.Told.{PlainRow, work_over}
+use Rattle.plai_fix.specs.Stops.{IsSolvedBy}
+use Rattle.plai_fix_rows.specs.Marks.{AreMarked}
+use Rattle.plai_fix_laws.proofs.Places.{item_map}
 use Rattle.plai_repair.specs.Opened.{IsWholeTable}
 use Rattle.plai_repair.specs.Reached.{entry_at, KeepsReached}
 use Rattle.plai_repair.proofs.Leads.{row_of_name, name_of_row}

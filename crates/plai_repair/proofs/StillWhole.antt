@@ -18,8 +18,8 @@ use Rattle.plai_eval.specs.Stops.{IsOver}
 use Rattle.plai_eval.specs.LeastTable as order
 use Rattle.plai_eval.proofs.One.{strict}
 use Rattle.plai_eval.proofs.Lawful.{lawful_at, limits_at}
-use Rattle.plai_fix.specs.Tables.{state_of}
-use Rattle.plai_fix.proofs.Lists.{item_slice}
+use Rattle.plai_fix_rows.specs.Tables.{state_of}
+use Rattle.plai_fix_laws.proofs.Lists.{item_slice}
 use Rattle.plai_repair.specs.Opened.{IsWholeTable}
 use Rattle.plai_repair.specs.Unchanged.{AreUnchanged}
 use Rattle.plai_repair.proofs.Results.{named_row}

@@ -10,8 +10,8 @@ use Rattle.plai_eval.specs.Meaning.{as_domain, as_program}
 use Rattle.plai_eval.specs.LeastTable as order
 use Rattle.plai_table.specs.Rows.{TableRow, with_live, with_entry}
 use Rattle.plai_arcs.specs.declared.arcs.Arcs.{Arcs}
-use Rattle.plai_fix.specs.WorkStates.{Keeps}
-use Rattle.plai_fix.specs.Tables.{state_of}
+use Rattle.plai_fix_laws.specs.WorkStates.{Keeps}
+use Rattle.plai_fix_rows.specs.Tables.{state_of}
 use Rattle.plai_repair.specs.Whole.{IsWhole}
 
 -- the row, dormant and no entry's

@@ -6,7 +6,7 @@ use Rattle.plai_theory.specs.Domain.{Domain, Program}
 use Rattle.plai_theory.specs.Evaluation.{NameOf, calls_of}
 use Rattle.plai_theory.specs.LeastTable.{Row, Order, IsLeastTable}
 use Rattle.plai_theory.specs.Tables.{source_of, HasName}
-use Rattle.plai_fix.specs.WorkStates.{KeptRow, Keeping, clause_at, IsNamed}
+use Rattle.plai_fix_laws.specs.WorkStates.{KeptRow, Keeping, clause_at, IsNamed}
 
 -- The rows are the least table's, each once, live, with its answer. No pair is dirty. A clause of a row calls the rows that
 -- its evaluation under the least table calls, and nothing else is called.

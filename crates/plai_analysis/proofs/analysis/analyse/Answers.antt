@@ -1,5 +1,5 @@
 use Rattle.std.proofs.Common.{◌≡◌, ◌-◌, None, List, [], inr}
-use Rattle.plai_fix.specs.Told.{PlainRow}
+use Rattle.plai_fix_rows.specs.Told.{PlainRow}
 use Rattle.plai_analysis.specs.Solved.{opened_rows}
 use Rattle.plai_analysis.specs.Work.{HasWhole, StopsFrom, HasStopped, Whole}
 use Rattle.plai_analysis.proofs.Openings.{nothing_start, nothing_opens}

@@ -1,5 +1,5 @@
 use Rattle.std.proofs.Common.{refl}
-use Rattle.plai_fix.specs.Tables.{kept_rows}
+use Rattle.plai_fix_rows.specs.Tables.{kept_rows}
 use Rattle.plai_fix.proofs.Evaluated.{same_names, not_over}
 use Rattle.plai_fix.proofs.evaluation.evaluate_clause.Goals as goal
 

@@ -6,9 +6,9 @@ use Rattle.plai_domain.specs.Names.{name_of}
 use Rattle.plai_domain.specs.Noted.{noted}
 use Rattle.plai_arcs.specs.Arcs.{is_dirty, is_call}
 use Rattle.plai_eval.specs.Meaning.{as_domain}
-use Rattle.plai_fix.specs.Tables.{key_name, kept_rows}
+use Rattle.plai_fix_rows.specs.Tables.{key_name, kept_rows}
 use Rattle.plai_fix.specs.Evaluating.{IsEvaluation, TellsOver}
-use Rattle.plai_fix.proofs.Parts.{if_err, name_at, one_name, clears_from}
+use Rattle.plai_fix_rows.proofs.Parts.{if_err, name_at, one_name, clears_from}
 use Rattle.plai_fix.proofs.evaluation.evaluate_pair.Goals as goal
 
 pub evaluate_clause-requires-clause-arity : goal.evaluate_clause-requires-clause-arity

@@ -7,11 +7,11 @@ use Rattle.plai_domain.specs.Noted.{noted}
 use Rattle.plai_arcs.specs.Arcs.{is_dirty, is_call}
 use Rattle.plai_arcs.specs.Links.{is_pair}
 use Rattle.plai_eval.specs.Meaning.{as_domain}
-use Rattle.plai_fix.specs.Tables.{state_of}
-use Rattle.plai_fix.proofs.Extended.{answers_live}
-use Rattle.plai_fix.proofs.Makings.{answers}
-use Rattle.plai_fix.proofs.Parts.{one_name}
-use Rattle.plai_fix.proofs.Queued.{queued_more}
+use Rattle.plai_fix_rows.specs.Tables.{state_of}
+use Rattle.plai_fix_laws.proofs.Extended.{answers_live}
+use Rattle.plai_fix_rows.proofs.Makings.{answers}
+use Rattle.plai_fix_rows.proofs.Parts.{one_name}
+use Rattle.plai_fix_rows.proofs.Queued.{queued_more}
 use Rattle.plai_fix.proofs.growing.grow_row.Goals as goal
 
 pub returns-clause-answers : goal.returns-clause-answers

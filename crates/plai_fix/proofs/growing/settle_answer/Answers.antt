@@ -2,12 +2,12 @@ use Rattle.std.proofs.Common.{Some, refl, sym, subst, Bor}
 use Rattle.std.specs.Option.{option_map, option_copied}
 use Rattle.plai_table.specs.Rows.{TableRow}
 use Rattle.plai_eval.specs.Meaning.{as_domain, as_program}
-use Rattle.plai_fix.specs.Tables.{kept_row, state_of}
-use Rattle.plai_fix.specs.Moves.{Shifts}
+use Rattle.plai_fix_rows.specs.Tables.{kept_row, state_of}
+use Rattle.plai_fix_rows.specs.Moves.{Shifts}
 use Rattle.plai_fix.proofs.Evaluated.{copied_map}
-use Rattle.plai_fix.proofs.Extended.{extends_answers}
-use Rattle.plai_fix.proofs.Parts.{name_at}
-use Rattle.plai_fix.proofs.TableRows.{kept_at}
+use Rattle.plai_fix_laws.proofs.Extended.{extends_answers}
+use Rattle.plai_fix_rows.proofs.Parts.{name_at}
+use Rattle.plai_fix_rows.proofs.TableRows.{kept_at}
 use Rattle.plai_fix.proofs.GrownPairs.{settles_told, grows_told, grown_shifts}
 use Rattle.plai_fix.proofs.growing.settle_answer.Goals as goal
 

@@ -1,6 +1,6 @@
 use Rattle.std.proofs.Common.{ap}
 use Rattle.std.specs.Option.{option_copied}
-use Rattle.plai_fix.proofs.Parts.{some_more, none_more, kept_none, grown_first, grown_later, kept_later}
+use Rattle.plai_fix_rows.proofs.Parts.{some_more, none_more, kept_none, grown_first, grown_later, kept_later}
 use Rattle.plai_fix.proofs.joining.growth.Goals as goal
 
 pub returns-in_default-None-clause-kept : goal.returns-in_default-None-clause-kept

@@ -1,9 +1,9 @@
 use Rattle.std.proofs.Common.{◌≡◌, Some, None, position, sym}
 use Rattle.plai_table.specs.Rows.{names_of}
 use Rattle.plai_eval.specs.Meaning.{as_domain}
-use Rattle.plai_fix.specs.Tables.{key_name, kept_rows}
-use Rattle.plai_fix.proofs.Keys.{same_key, found_named, absent_named}
-use Rattle.plai_fix.proofs.LookedUp.{found_one, missed_one}
+use Rattle.plai_fix_rows.specs.Tables.{key_name, kept_rows}
+use Rattle.plai_fix_rows.proofs.Keys.{same_key, found_named, absent_named}
+use Rattle.plai_fix_laws.proofs.LookedUp.{found_one, missed_one}
 use Rattle.plai_fix.proofs.looking.look_up.Goals as goal
 
 pub returns-in_ok-push-in-Some : goal.returns-in_ok-push-in-Some

@@ -2,8 +2,8 @@ use Rattle.std.proofs.Common.{◌≡◌, map, sym, ap, ◌∙◌, rules}
 use Rattle.std.proofs.lemmas.Iterator.Adapters.{YieldsList-from_vec}
 use Rattle.std.proofs.lemmas.Iterator.Consumers.{YieldsList-end}
 use Rattle.plai_eval.specs.Meaning.{as_domain}
-use Rattle.plai_fix.specs.Tables.{key_name, kept_rows}
-use Rattle.plai_fix.proofs.LookedUp.{looks_none, looks_push, looks_all, map_same}
+use Rattle.plai_fix_rows.specs.Tables.{key_name, kept_rows}
+use Rattle.plai_fix_laws.proofs.LookedUp.{looks_none, looks_push, looks_all, map_same}
 use Rattle.plai_fix.proofs.looking.look_up_all.Goals as goal
 
 pub loop-name-init : goal.loop-name-init

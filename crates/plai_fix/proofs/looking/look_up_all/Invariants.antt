@@ -1,7 +1,7 @@
 use Rattle.std.proofs.Common.{map}
 use Rattle.plai_eval.specs.Meaning.{as_domain}
-use Rattle.plai_fix.specs.Tables.{key_name, kept_rows}
-use Rattle.plai_fix.specs.LookUps.{Looks}
+use Rattle.plai_fix_rows.specs.Tables.{key_name, kept_rows}
+use Rattle.plai_fix_laws.specs.LookUps.{Looks}
 use Rattle.plai_fix.proofs.looking.look_up_all.Given as goal
 
 -- the names so far are looked up

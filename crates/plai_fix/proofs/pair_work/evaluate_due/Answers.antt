@@ -4,10 +4,10 @@ use Rattle.plai_domain.specs.declared.key.Key.{Key}
 use Rattle.plai_clauses.specs.Program.{clauses_of}
 use Rattle.plai_table.specs.Rows.{names_of}
 use Rattle.plai_arcs.specs.Arcs.{is_dirty}
-use Rattle.plai_fix.specs.Tables.{key_name, kept_rows, state_of}
+use Rattle.plai_fix_rows.specs.Tables.{key_name, kept_rows, state_of}
 use Rattle.plai_fix.specs.Evaluating.{TellsOver}
-use Rattle.plai_fix.proofs.Parts.{if_err}
-use Rattle.plai_fix.proofs.TableRows.{named_at, name_there, is_there}
+use Rattle.plai_fix_rows.proofs.Parts.{if_err}
+use Rattle.plai_fix_rows.proofs.TableRows.{named_at, name_there, is_there}
 use Rattle.plai_fix.proofs.Evaluations.{name_fits, answers_fit, number_fits, evaluates_told, evaluation_moves, evaluation_stops, clause_in}
 use Rattle.plai_fix.proofs.pair_work.evaluate_due.Goals as goal
 

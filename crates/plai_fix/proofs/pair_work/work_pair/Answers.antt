@@ -7,16 +7,16 @@ use Rattle.plai_terms.specs.declared.abs.Abs.{Abs}
 use Rattle.plai_terms.specs.declared.pred_key.PredKey.{PredKey}
 use Rattle.plai_arcs.specs.Arcs.{is_dirty}
 use Rattle.plai_eval.specs.Meaning.{as_domain, as_limits, as_program}
-use Rattle.plai_fix.specs.LookUps.{Looks}
-use Rattle.plai_fix.specs.Logs.{IsWorking}
-use Rattle.plai_fix.specs.Pairs.{Links}
-use Rattle.plai_fix.specs.Tables.{key_name, kept_row, kept_rows, state_of}
-use Rattle.plai_fix.specs.Told.{start_of, HasLog}
-use Rattle.plai_fix.specs.Moves.{Moves}
-use Rattle.plai_fix.proofs.Extended.{extends_then}
-use Rattle.plai_fix.proofs.Linked.{links_as}
-use Rattle.plai_fix.proofs.TableRows.{kept_at}
-use Rattle.plai_fix.proofs.Telling.{has_less}
+use Rattle.plai_fix_laws.specs.LookUps.{Looks}
+use Rattle.plai_fix_laws.specs.Logs.{IsWorking}
+use Rattle.plai_fix_laws.specs.Pairs.{Links}
+use Rattle.plai_fix_rows.specs.Tables.{key_name, kept_row, kept_rows, state_of}
+use Rattle.plai_fix_rows.specs.Told.{start_of, HasLog}
+use Rattle.plai_fix_rows.specs.Moves.{Moves}
+use Rattle.plai_fix_laws.proofs.Extended.{extends_then}
+use Rattle.plai_fix_laws.proofs.Linked.{links_as}
+use Rattle.plai_fix_rows.proofs.TableRows.{kept_at}
+use Rattle.plai_fix_rows.proofs.Telling.{has_less}
 use Rattle.plai_fix.proofs.GrownPairs.{alike_told}
 use Rattle.plai_fix.proofs.Shifted.{moves_all}
 use Rattle.plai_fix.proofs.Works.{looks_links, links_told, grown_of_rows, queued_less}

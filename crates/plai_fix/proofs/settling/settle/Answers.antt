@@ -1,6 +1,6 @@
 use Rattle.plai_eval.specs.Meaning.{as_domain}
-use Rattle.plai_fix.specs.Tables.{kept_rows}
-use Rattle.plai_fix.proofs.Extended.{extends_then}
+use Rattle.plai_fix_rows.specs.Tables.{kept_rows}
+use Rattle.plai_fix_laws.proofs.Extended.{extends_then}
 use Rattle.plai_fix.proofs.settling.settle.Goals as goal
 
 pub returns-then-eq-clause-extends : goal.returns-then-eq-clause-extends

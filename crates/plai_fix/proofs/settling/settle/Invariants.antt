@@ -1,11 +1,11 @@
 use Rattle.std.proofs.Common.{◌-◌, heap_items}
 use Rattle.plai_arcs.specs.Arcs.{is_dirty}
 use Rattle.plai_eval.specs.Meaning.{as_domain}
-use Rattle.plai_fix.specs.WorkStates.{Extends}
-use Rattle.plai_fix.specs.Measures.{kept_room}
-use Rattle.plai_fix.specs.Tables.{kept_rows, state_of}
-use Rattle.plai_fix.specs.Queues.{IsQueued}
-use Rattle.plai_fix.specs.Solving.{IsAtWork}
+use Rattle.plai_fix_laws.specs.WorkStates.{Extends}
+use Rattle.plai_fix_laws.specs.Measures.{kept_room}
+use Rattle.plai_fix_rows.specs.Tables.{kept_rows, state_of}
+use Rattle.plai_fix_laws.specs.Queues.{IsQueued}
+use Rattle.plai_fix_rows.specs.Solving.{IsAtWork}
 use Rattle.plai_fix.proofs.settling.settle.Given as goal
 
 -- what was told and counted at the start

@@ -1,9 +1,9 @@
 use Rattle.std.proofs.Common.{◌∙◌, subst}
 use Rattle.plai_eval.specs.Meaning.{as_domain, as_program}
-use Rattle.plai_fix.specs.declared.change.Change.TheVariants.{Grown}
-use Rattle.plai_fix.specs.Tables.{kept_rows, state_of}
-use Rattle.plai_fix.specs.Moves.{Rests}
-use Rattle.plai_fix.proofs.Extended.{extends_then}
+use Rattle.plai_fix_rows.specs.declared.change.Change.TheVariants.{Grown}
+use Rattle.plai_fix_rows.specs.Tables.{kept_rows, state_of}
+use Rattle.plai_fix_rows.specs.Moves.{Rests}
+use Rattle.plai_fix_laws.proofs.Extended.{extends_then}
 use Rattle.plai_fix.proofs.Shifted.{rests_settle}
 use Rattle.plai_fix.proofs.settling.work_answers.Goals as goal
 

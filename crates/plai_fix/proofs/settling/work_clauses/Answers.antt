@@ -1,9 +1,9 @@
 use Rattle.std.proofs.Common.{◌∙◌, subst}
 use Rattle.plai_eval.specs.Meaning.{as_domain, as_program}
-use Rattle.plai_fix.specs.declared.change.Change.TheVariants.{Nothing}
-use Rattle.plai_fix.specs.Tables.{kept_rows, state_of}
-use Rattle.plai_fix.specs.Moves.{Moves}
-use Rattle.plai_fix.proofs.Extended.{extends_then}
+use Rattle.plai_fix_rows.specs.declared.change.Change.TheVariants.{Nothing}
+use Rattle.plai_fix_rows.specs.Tables.{kept_rows, state_of}
+use Rattle.plai_fix_rows.specs.Moves.{Moves}
+use Rattle.plai_fix_laws.proofs.Extended.{extends_then}
 use Rattle.plai_fix.proofs.Shifted.{moves_rest}
 use Rattle.plai_fix.proofs.settling.work_clauses.Goals as goal
 

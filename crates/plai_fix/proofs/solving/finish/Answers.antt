@@ -2,9 +2,9 @@ use Rattle.std.proofs.Common.{◌≡◌, ◌∙◌, true, false, List, map, sym,
 use Rattle.plai_theory.specs.Words.{IsIn}
 use Rattle.plai_arcs.specs.Arcs.{is_dirty, is_call}
 use Rattle.plai_eval.specs.Meaning.{as_domain, as_program}
-use Rattle.plai_fix.specs.WorkStates.{KeptRow}
-use Rattle.plai_fix.specs.Tables.{key_name, state_of}
-use Rattle.plai_fix.specs.Told.{start_of, HasLog}
+use Rattle.plai_fix_laws.specs.WorkStates.{KeptRow}
+use Rattle.plai_fix_rows.specs.Tables.{key_name, state_of}
+use Rattle.plai_fix_rows.specs.Told.{start_of, HasLog}
 use Rattle.plai_fix.specs.Stops.{IsSolvedBy}
 use Rattle.plai_fix.proofs.Finished.{solved_told, stopped_pair, stopped_entry}
 use Rattle.plai_fix.proofs.solving.finish.Goals as goal

@@ -2,13 +2,13 @@ use Rattle.std.proofs.Common.{◌-◌, None, heap_items, arith, rules}
 use Rattle.plai_theory.specs.LegalWork.{IsLegalLog}
 use Rattle.plai_arcs.specs.Arcs.{is_dirty}
 use Rattle.plai_eval.specs.Meaning.{as_domain, as_program}
-use Rattle.plai_fix.specs.Tables.{kept_rows, state_of}
-use Rattle.plai_fix.specs.Queues.{IsQueued}
-use Rattle.plai_fix.specs.Told.{start_of, HasLog}
-use Rattle.plai_fix.specs.Solving.{IsAtWork}
-use Rattle.plai_fix.proofs.Parts.{ok_more, if_err}
-use Rattle.plai_fix.proofs.TableRows.{is_there}
-use Rattle.plai_fix.proofs.OpenedRows.{opened_on}
+use Rattle.plai_fix_rows.specs.Tables.{kept_rows, state_of}
+use Rattle.plai_fix_laws.specs.Queues.{IsQueued}
+use Rattle.plai_fix_rows.specs.Told.{start_of, HasLog}
+use Rattle.plai_fix_rows.specs.Solving.{IsAtWork}
+use Rattle.plai_fix_rows.proofs.Parts.{ok_more, if_err}
+use Rattle.plai_fix_rows.proofs.TableRows.{is_there}
+use Rattle.plai_fix_rows.proofs.OpenedRows.{opened_on}
 use Rattle.plai_fix.proofs.Finished.{begins_told, opens_asleep, own_rows, unmet_rows}
 use Rattle.plai_fix.proofs.Works.{keeps_of_rows}
 use Rattle.plai_eval.proofs.Lawful.{lawful_at}

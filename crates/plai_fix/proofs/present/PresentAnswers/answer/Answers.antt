@@ -2,7 +2,7 @@ use Rattle.std.proofs.Common.{◌≡◌, None, Some, position, sym, ap, ◌∙�
 use Rattle.std.specs.Option.{option_map}
 use Rattle.plai_table.specs.Rows.{names_of}
 use Rattle.plai_fix.proofs.Evaluated.{copied_map}
-use Rattle.plai_fix.proofs.Keys.{same_key, found, absent}
+use Rattle.plai_fix_rows.proofs.Keys.{same_key, found, absent}
 use Rattle.plai_fix.proofs.present.PresentAnswers.answer.Goals as goal
 
 pub returns : goal.returns

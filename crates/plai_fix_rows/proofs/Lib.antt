@@ -1,0 +1,16 @@
+pub mod Marked
+pub mod Parts
+pub mod Keys
+pub mod Makings
+pub mod Queued
+pub mod Telling
+pub mod TableRows
+pub mod Placed
+pub mod Closes
+pub mod Meetings
+pub mod Awaited
+pub mod Roused
+pub mod Popped
+pub mod EntryKeys
+pub mod EntryMarks
+pub mod OpenedRows

@@ -1,0 +1,5 @@
+pub mod Tables
+pub mod Told
+pub mod Solving
+pub mod Marks
+pub mod Moves
