@@ -4,3 +4,4 @@ mod EditTerms
 mod Formed
 mod Taken
 mod Changed
+mod Touched

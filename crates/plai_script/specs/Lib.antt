@@ -4,3 +4,4 @@ pub mod Edits
 pub mod Scripts
 pub mod Readable
 pub mod Answering
+pub mod Touching

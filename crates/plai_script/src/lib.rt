@@ -4,12 +4,13 @@
 mod change;
 mod edit;
 mod fail;
+mod numbered;
 mod own_term;
 mod said;
 mod script;
 mod shape;
 
-pub use change::apply;
+pub use change::{apply, apply_noting};
 pub use edit::Edit;
 pub use fail::{EditFail, ScriptFail};
 pub use plai_clauses::EditCause;

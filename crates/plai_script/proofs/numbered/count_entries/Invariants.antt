@@ -1,6 +1,6 @@
 use Rattle.std.proofs.Common.{◌≡◌, ◌≤◌, ◌+◌, drop}
 use Rattle.plai_clauses.specs.Program.{many_of, homes_of_entries}
-use Rattle.plai_script.proofs.change.count_entries.Given as goal
+use Rattle.plai_script.proofs.numbered.count_entries.Given as goal
 
 abbrev pub invariant-loop-entry : goal.invariant-loop-entry
 invariant-loop-entry l =

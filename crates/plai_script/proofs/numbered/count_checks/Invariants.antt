@@ -1,6 +1,6 @@
 use Rattle.std.proofs.Common.{◌≡◌, ◌≤◌, ◌+◌, drop}
 use Rattle.plai_clauses.specs.Program.{many_of, homes_of_checks}
-use Rattle.plai_script.proofs.change.count_checks.Given as goal
+use Rattle.plai_script.proofs.numbered.count_checks.Given as goal
 
 abbrev pub invariant-loop-check : goal.invariant-loop-check
 invariant-loop-check l =
