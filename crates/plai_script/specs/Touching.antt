@@ -1,5 +1,5 @@
--- The predicates that a change touches: those whose clauses it may change. What was derived of the others still stands (after
--- Hermenegildo, Puebla, Marriott and Stuckey 2000).
+-- The predicates that a change touches: those whose clauses it may change, where work on it begins (after Hermenegildo, Puebla,
+-- Marriott and Stuckey 2000).
 use Rattle.std.specs.Prelude.{◌≡◌, true, false, List, ◌∷◌}
 use Rattle.std.specs.List.{list_any}
 use Rattle.plai_terms.specs.declared.pred_key.PredKey.{PredKey}

@@ -230,9 +230,9 @@ fn change_all(
     Ok(())
 }
 
-/// As [`apply`]; and the predicates whose clauses the edit may change are put into `touched`, in the order in which its parts
-/// name them. Each other predicate has the clauses that it had; and what was touched stays touched. Where there is no program,
-/// predicates of some of the edit's parts may have been put in.
+/// As [`apply`]; and the predicates whose clauses the edit may change are put into `touched`. Each predicate that isn't in it
+/// then has the clauses that it had, and what was touched stays touched. Where there is no program, predicates of some of the
+/// edit's parts may have been put in.
 pub fn apply_noting(
     alloc: Global,
     program: &Program,
