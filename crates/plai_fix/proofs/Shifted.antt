@@ -6,7 +6,7 @@ use Rattle.plai_fix_rows.specs.declared.change.Change.TheVariants.{Nothing, Grow
 use Rattle.plai_fix_laws.specs.WorkStates.{Keeping}
 use Rattle.plai_fix_laws.specs.Changes.{SetsCalls}
 use Rattle.plai_fix_laws.specs.Measures.{kept_room, kept_ranks}
-use Rattle.plai_fix_rows.specs.Moves.{both_of, Shifts, Moves, Rests, Settles}
+use Rattle.plai_fix_rows.specs.Moves.{both_of, Shifts, Moves, Rests}
 use Rattle.plai_fix_laws.proofs.Lowering.{set_dirties}
 
 module _ (d : Domain) (g : Program d) (limit : ℕ) (rank : d.Pred → d.Value → ℕ) where
@@ -44,9 +44,3 @@ module _ (d : Domain) (g : Program d) (limit : ℕ) (rank : d.Pred → d.Value �
   moves_rest k mid new Nothing other e f h = absurd (other refl)
   moves_rest k mid new Grown other e f h = (h.0 ∙ e, let l = h.1 in omega arith)
   moves_rest k mid new Opened other e f h = omega arith
-
-  pub rests_settle : (k mid new : Keeping d) (a : Change) → (a ≡ Grown → ⊥) → kept_room d limit mid.rows ≡ kept_room d limit k.rows
-      → Rests d limit rank mid new a → Settles d limit k new a
-  rests_settle k mid new Nothing other e h = h
-  rests_settle k mid new Grown other e h = absurd (other refl)
-  rests_settle k mid new Opened other e h = omega arith

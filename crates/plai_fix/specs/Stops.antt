@@ -19,7 +19,7 @@ use Rattle.plai_eval.specs.Cost.{cost_of}
 use Rattle.plai_fix.specs.declared.solve_fail.SolveFail.{SolveFail}
 use Rattle.plai_fix.specs.declared.solve_fail.SolveFail.TheVariants as solve_fail
 use Rattle.plai_fix_laws.specs.WorkStates.{Keeping, Keeps, clause_at}
-use Rattle.plai_fix_rows.specs.Told.{Origin, start_of, HasLog, log_cost}
+use Rattle.plai_fix_rows.specs.Told.{Origin, start_of, HasLog, HasLegalLog, log_cost}
 
 -- no clause of a live row is dirty
 abbrev pub AreClean : (d : Domain) → Program d → List (WorkRow d) → Type 0
@@ -66,7 +66,7 @@ pub record IsOverBehind (p : PlainDomain) (program : ProgramView) (limit : ℕ) 
 -- why work that began there comes to no end; want of memory is free, but what was told is a legal log
 abbrev pub Stops : (p : PlainDomain) → ProgramView → ℕ → Origin → Option (List WorkEntry) → ℕ → SolveFail → Type 0
 Stops p program limit begun told steps solve_fail.Memory =
-    HasLog p program begun.told told 0 (λ log. IsLegalLog (as_domain p) (as_program p program) limit (start_of p begun) log)
+    HasLegalLog p program limit begun told
 Stops p program limit begun told steps (solve_fail.Rows n) = (n ≡ limit) × HasLog p program begun.told told steps (IsStoppedAt p program limit (start_of p begun))
 Stops p program limit begun told steps (solve_fail.Groups row number literal place) = HasLog p program begun.told told 0
     (IsOverBehind p program limit (start_of p begun) steps row number literal place)

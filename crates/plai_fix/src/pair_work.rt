@@ -35,6 +35,9 @@ use std::alloc::AllocError;
 use std::collections::BinaryHeap;
 use std::sync::ledger::Ledger;
 
+/// What work on pairs comes to: what it changed, or why it comes to no end.
+pub(crate) type Worked = Result<Change, SolveFail>;
+
 /// The clause of this number, from 1, of the row's predicate.
 fn due_clause<'a, D: Domain>(
     _domain: &D,
@@ -141,7 +144,7 @@ pub(crate) fn work_pair<D: Domain, W: Work, L: Ledger>(
     number: u64,
     work: &mut W,
     steps: &mut Steps<L>,
-) -> Result<Change, SolveFail>
+) -> Worked
     ghost begun: { Start }
     requires well_formed { IsWellFormed task.now.program.now }
     requires at_work { IsAtWork (D.plain task.now.domain.now) task.now.program.now task.now.limit begun.origin (W.entries work.old) (steps.old - begun.steps)

@@ -6,13 +6,12 @@ ghost use Rattle.plai_arcs.specs.Arcs.{is_dirty};
 ghost use Rattle.plai_eval.specs.Meaning.{as_domain};
 ghost use Rattle.plai_fix_laws.specs.WorkStates.{Extends, IsClean};
 ghost use Rattle.plai_fix_rows.specs.Tables.{kept_rows, state_of};
-ghost use Rattle.plai_fix_laws.specs.Queues.{IsQueued};
 ghost use Rattle.plai_fix_rows.specs.Told.{Start};
-ghost use Rattle.plai_fix_rows.specs.Solving.{IsAtWork};
+ghost use Rattle.plai_fix_rows.specs.Solving.{IsReady};
 ghost use Rattle.plai_fix_rows.specs.Moves.{Rests, Settles};
 ghost use Rattle.plai_fix.specs.Stops.{Stops};
 
-use crate::pair_work::work_pair;
+use crate::pair_work::{Worked, work_pair};
 use crate::solve_fail::SolveFail;
 use plai_arcs::Arcs;
 use plai_base::Steps;
@@ -31,16 +30,13 @@ fn work_clauses<D: Domain, W: Work, L: Ledger>(
     queue: &mut BinaryHeap<u64>,
     work: &mut W,
     steps: &mut Steps<L>,
-) -> Result<Change, SolveFail>
+) -> Worked
     ghost begun: { Start }
     requires well_formed { IsWellFormed task.now.program.now }
-    requires at_work { IsAtWork (D.plain task.now.domain.now) task.now.program.now task.now.limit begun.origin (W.entries work.old) (steps.old - begun.steps)
-        (state_of D.value_of (D.plain task.now.domain.now) table.old.rows arcs.old) (is_dirty unmet.old) }
-    requires queued { IsQueued (state_of D.value_of (D.plain task.now.domain.now) table.old.rows arcs.old) (heap_items queue.old) }
-    ensures at_work { OnOk result (IsAtWork (D.plain task.now.domain.now) task.now.program.now task.now.limit begun.origin (W.entries work.new)
-        (steps.new - begun.steps)
-        (state_of D.value_of (D.plain task.now.domain.now) table.new.rows arcs.new) (is_dirty unmet.new)) }
-    ensures queued { OnOk result (IsQueued (state_of D.value_of (D.plain task.now.domain.now) table.new.rows arcs.new) (heap_items queue.new)) }
+    requires ready { IsReady (D.plain task.now.domain.now) task.now.program.now task.now.limit begun.origin (W.entries work.old) (steps.old - begun.steps)
+        (state_of D.value_of (D.plain task.now.domain.now) table.old.rows arcs.old) (is_dirty unmet.old) (heap_items queue.old) }
+    ensures ready { OnOk result (IsReady (D.plain task.now.domain.now) task.now.program.now task.now.limit begun.origin (W.entries work.new)
+        (steps.new - begun.steps) (state_of D.value_of (D.plain task.now.domain.now) table.new.rows arcs.new) (is_dirty unmet.new) (heap_items queue.new)) }
     ensures extends { OnOk result (Extends (as_domain (D.plain task.now.domain.now)) (kept_rows D.value_of (D.plain task.now.domain.now) table.old.rows)
         (kept_rows D.value_of (D.plain task.now.domain.now) table.new.rows)) }
     ensures rests { IfOk result (Rests (as_domain (D.plain task.now.domain.now)) task.now.limit (λ pred. (D.plain task.now.domain.now).rank)
@@ -58,7 +54,8 @@ fn work_clauses<D: Domain, W: Work, L: Ledger>(
     Ok(Change::Nothing)
 }
 
-/// Works dirty pairs, until none is left, or rows or first answers come. The ranks of the answers fall each other time.
+/// Works dirty pairs, until none is left, or rows or first answers come. Whether these came. The ranks of the answers fall each
+/// other time.
 fn work_answers<D: Domain, W: Work, L: Ledger>(
     task: &Task<D>,
     table: &mut Table<D::Value>,
@@ -67,16 +64,13 @@ fn work_answers<D: Domain, W: Work, L: Ledger>(
     queue: &mut BinaryHeap<u64>,
     work: &mut W,
     steps: &mut Steps<L>,
-) -> Result<Change, SolveFail>
+) -> Result<bool, SolveFail>
     ghost begun: { Start }
     requires well_formed { IsWellFormed task.now.program.now }
-    requires at_work { IsAtWork (D.plain task.now.domain.now) task.now.program.now task.now.limit begun.origin (W.entries work.old) (steps.old - begun.steps)
-        (state_of D.value_of (D.plain task.now.domain.now) table.old.rows arcs.old) (is_dirty unmet.old) }
-    requires queued { IsQueued (state_of D.value_of (D.plain task.now.domain.now) table.old.rows arcs.old) (heap_items queue.old) }
-    ensures at_work { OnOk result (IsAtWork (D.plain task.now.domain.now) task.now.program.now task.now.limit begun.origin (W.entries work.new)
-        (steps.new - begun.steps)
-        (state_of D.value_of (D.plain task.now.domain.now) table.new.rows arcs.new) (is_dirty unmet.new)) }
-    ensures queued { OnOk result (IsQueued (state_of D.value_of (D.plain task.now.domain.now) table.new.rows arcs.new) (heap_items queue.new)) }
+    requires ready { IsReady (D.plain task.now.domain.now) task.now.program.now task.now.limit begun.origin (W.entries work.old) (steps.old - begun.steps)
+        (state_of D.value_of (D.plain task.now.domain.now) table.old.rows arcs.old) (is_dirty unmet.old) (heap_items queue.old) }
+    ensures ready { OnOk result (IsReady (D.plain task.now.domain.now) task.now.program.now task.now.limit begun.origin (W.entries work.new)
+        (steps.new - begun.steps) (state_of D.value_of (D.plain task.now.domain.now) table.new.rows arcs.new) (is_dirty unmet.new) (heap_items queue.new)) }
     ensures extends { OnOk result (Extends (as_domain (D.plain task.now.domain.now)) (kept_rows D.value_of (D.plain task.now.domain.now) table.old.rows)
         (kept_rows D.value_of (D.plain task.now.domain.now) table.new.rows)) }
     ensures settles { IfOk result (Settles (as_domain (D.plain task.now.domain.now)) task.now.limit
@@ -87,8 +81,9 @@ fn work_answers<D: Domain, W: Work, L: Ledger>(
 {
     loop {
         match work_clauses(task, table, arcs, unmet, queue, work, steps)? {
+            Change::Nothing => return Ok(false),
             Change::Grown => {}
-            change => return Ok(change),
+            Change::Opened => return Ok(true),
         }
     }
 }
@@ -105,13 +100,10 @@ pub(crate) fn settle<D: Domain, W: Work, L: Ledger>(
 ) -> Result<(), SolveFail>
     ghost begun: { Start }
     requires well_formed { IsWellFormed task.now.program.now }
-    requires at_work { IsAtWork (D.plain task.now.domain.now) task.now.program.now task.now.limit begun.origin (W.entries work.old) (steps.old - begun.steps)
-        (state_of D.value_of (D.plain task.now.domain.now) table.old.rows arcs.old) (is_dirty unmet.old) }
-    requires queued { IsQueued (state_of D.value_of (D.plain task.now.domain.now) table.old.rows arcs.old) (heap_items queue.old) }
-    ensures at_work { OnOk result (IsAtWork (D.plain task.now.domain.now) task.now.program.now task.now.limit begun.origin (W.entries work.new)
-        (steps.new - begun.steps)
-        (state_of D.value_of (D.plain task.now.domain.now) table.new.rows arcs.new) (is_dirty unmet.new)) }
-    ensures queued { OnOk result (IsQueued (state_of D.value_of (D.plain task.now.domain.now) table.new.rows arcs.new) (heap_items queue.new)) }
+    requires ready { IsReady (D.plain task.now.domain.now) task.now.program.now task.now.limit begun.origin (W.entries work.old) (steps.old - begun.steps)
+        (state_of D.value_of (D.plain task.now.domain.now) table.old.rows arcs.old) (is_dirty unmet.old) (heap_items queue.old) }
+    ensures ready { OnOk result (IsReady (D.plain task.now.domain.now) task.now.program.now task.now.limit begun.origin (W.entries work.new)
+        (steps.new - begun.steps) (state_of D.value_of (D.plain task.now.domain.now) table.new.rows arcs.new) (is_dirty unmet.new) (heap_items queue.new)) }
     ensures extends { OnOk result (Extends (as_domain (D.plain task.now.domain.now)) (kept_rows D.value_of (D.plain task.now.domain.now) table.old.rows)
         (kept_rows D.value_of (D.plain task.now.domain.now) table.new.rows)) }
     ensures clean { OnOk result (IsClean (as_domain (D.plain task.now.domain.now)) (state_of D.value_of (D.plain task.now.domain.now) table.new.rows arcs.new)) }
@@ -119,7 +111,7 @@ pub(crate) fn settle<D: Domain, W: Work, L: Ledger>(
         (steps.new - begun.steps)) }
 {
     loop {
-        if work_answers(task, table, arcs, unmet, queue, work, steps)? == Change::Nothing {
+        if !work_answers(task, table, arcs, unmet, queue, work, steps)? {
             return Ok(());
         }
     }

@@ -45,8 +45,7 @@ Rests d limit rank k new Nothing = IsClean d new
 Rests d limit rank k new Grown = (kept_room d limit new.rows ≡ kept_room d limit k.rows) × (kept_ranks d rank new.rows < kept_ranks d rank k.rows)
 Rests d limit rank k new Opened = kept_room d limit new.rows < kept_room d limit k.rows
 
--- where no answer that is there grows either
-abbrev pub Settles : (d : Domain) → ℕ → Keeping d → Keeping d → Change → Type 0
-Settles d limit k new Nothing = IsClean d new
-Settles d limit k new Grown = ⊥
-Settles d limit k new Opened = kept_room d limit new.rows < kept_room d limit k.rows
+-- where no answer that is there grows either: whether the room fell
+abbrev pub Settles : (d : Domain) → ℕ → Keeping d → Keeping d → Bool → Type 0
+Settles d limit k new false = IsClean d new
+Settles d limit k new true = kept_room d limit new.rows < kept_room d limit k.rows

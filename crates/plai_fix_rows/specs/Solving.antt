@@ -16,7 +16,7 @@ use Rattle.plai_fix_laws.specs.WorkStates.{Keeping, IsNamed, is_live, with_pair,
 use Rattle.plai_fix_laws.specs.Changes.{Makes, Wakes}
 use Rattle.plai_fix_laws.specs.Logs.{IsWorking, IsWaking}
 use Rattle.plai_fix_laws.specs.Pairs.{Links, HasEvaluated, IsWaiting}
-use Rattle.plai_fix_laws.specs.Queues.{Awaits}
+use Rattle.plai_fix_laws.specs.Queues.{IsQueued, Awaits}
 use Rattle.plai_fix_rows.specs.Told.{Origin, start_of, HasLog}
 
 -- between two steps: the pairs that are marked as unmet called a name that has no live row
@@ -24,6 +24,18 @@ abbrev pub IsAtWork : (p : PlainDomain) → ProgramView → ℕ → Origin → O
     → Type 0
 IsAtWork p program limit begun told steps k unmet =
     HasLog p program begun.told told steps (λ log. IsWorking (as_domain p) (as_program p program) (as_limits p) limit (start_of p begun) log k None None unmet)
+
+-- work that stands between two steps does so afterwards too, wherever it began
+abbrev pub GoesOn : (p : PlainDomain) → ProgramView → ℕ → Option (List WorkEntry) → Keeping (as_domain p) → (ℕ → ℕ → Bool)
+    → Option (List WorkEntry) → Keeping (as_domain p) → (ℕ → ℕ → Bool) → Type 0
+GoesOn p program limit told k unmet new_told new new_unmet =
+    (begun : Origin) (cost : ℕ) → IsAtWork p program limit begun told cost k unmet → IsAtWork p program limit begun new_told cost new new_unmet
+
+-- Work stands between two steps, and each live row that has a dirty pair is queued.
+pub record IsReady (p : PlainDomain) (program : ProgramView) (limit : ℕ) (begun : Origin) (told : Option (List WorkEntry)) (steps : ℕ) (k : Keeping (as_domain p))
+    (unmet : ℕ → ℕ → Bool) (queue : List ℕ) : Type 0 where
+  pub at_work : IsAtWork p program limit begun told steps k unmet
+  pub queued : IsQueued k queue
 
 -- while rows are woken: what the pending pairs call may be dormant still
 abbrev pub IsAtWaking : (p : PlainDomain) → ProgramView → ℕ → Origin → Option (List WorkEntry) → ℕ → Keeping (as_domain p) → (ℕ → ℕ → Bool)

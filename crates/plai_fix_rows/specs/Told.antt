@@ -2,7 +2,7 @@
 -- (Hermenegildo, Puebla, Marriott and Stuckey 2000). Clauses are counted from 0 in logs, from 1 in what is told.
 use Rattle.std.specs.Prelude.{◌≡◌, ℕ, suc, ◌+◌, ◌≤◌, Bool, map, List, [], ◌∷◌, ◌++◌, Option, Some, None}
 use Rattle.plai_theory.specs.Words.{given, item}
-use Rattle.plai_theory.specs.LegalWork.{WorkRow, Work, LogEntry, Made, Woke, Evaluated, Grew}
+use Rattle.plai_theory.specs.LegalWork.{WorkRow, Work, LogEntry, Made, Woke, Evaluated, Grew, IsLegalLog}
 use Rattle.plai_theory.specs.Domain.{Name}
 use Rattle.plai_terms.specs.declared.abs.Abs.{Abs}
 use Rattle.plai_terms.specs.declared.pred_key.PredKey.{PredKey}
@@ -10,7 +10,7 @@ use Rattle.plai_domain.specs.declared.work.WorkEntry.{WorkEntry}
 use Rattle.plai_domain.specs.declared.work.WorkEntry.TheVariants as entries
 use Rattle.plai_domain.specs.Plain.{PlainDomain}
 use Rattle.plai_clauses.specs.Program.{ProgramView, clauses_of}
-use Rattle.plai_eval.specs.Meaning.{row_name, as_domain}
+use Rattle.plai_eval.specs.Meaning.{row_name, as_domain, as_program}
 use Rattle.plai_eval.specs.Cost.{cost_of}
 
 -- what an entry of a log tells; no answer grows to none
@@ -76,3 +76,7 @@ pub record HasLog (p : PlainDomain) (program : ProgramView) (begun told : Option
   pub is : Is log
   pub is_told : told ≡ told_after p begun log
   pub within : steps ≤ log_cost p program log
+
+-- what was told since work began there is a legal log
+abbrev pub HasLegalLog : (p : PlainDomain) → ProgramView → ℕ → Origin → Option (List WorkEntry) → Type 0
+HasLegalLog p program limit begun told = HasLog p program begun.told told 0 (IsLegalLog (as_domain p) (as_program p program) limit (start_of p begun))

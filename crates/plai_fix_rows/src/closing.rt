@@ -3,7 +3,6 @@ ghost use Rattle.std.specs.Prelude.{◌≡◌, ℕ, ◌≤◌, ◌-◌, nat_eq, 
 ghost use Rattle.std.specs.List.{list_any};
 ghost use Rattle.std.specs.BinaryHeap.{heap_items};
 ghost use Rattle.plai_theory.specs.Domain.{Name};
-ghost use Rattle.plai_theory.specs.LegalWork.{IsLegalLog};
 ghost use Rattle.plai_terms.specs.declared.abs.Abs.{Abs};
 ghost use Rattle.plai_terms.specs.declared.pred_key.PredKey.{PredKey};
 ghost use Rattle.plai_domain.specs.declared.work.WorkEntry.{WorkEntry};
@@ -15,8 +14,8 @@ ghost use Rattle.plai_fix_laws.specs.Changes.{SetsCalls};
 ghost use Rattle.plai_fix_laws.specs.Pairs.{Links};
 ghost use Rattle.plai_fix_rows.specs.Tables.{key_name, kept_rows, state_of};
 ghost use Rattle.plai_fix_laws.specs.Queues.{IsQueued};
-ghost use Rattle.plai_fix_rows.specs.Told.{start_of, Origin, HasLog};
-ghost use Rattle.plai_fix_rows.specs.Solving.{IsAtWork, IsAtWaking, IsPastGrowth, IsPlacing};
+ghost use Rattle.plai_fix_rows.specs.Told.{Origin, HasLegalLog};
+ghost use Rattle.plai_fix_rows.specs.Solving.{IsAtWork, IsAtWaking, IsPastGrowth, Places, IsPlacing};
 ghost use Rattle.plai_fix_rows.specs.Moves.{Shifts};
 ghost use Rattle.plai_fix_laws.specs.Measures.{Adds};
 
@@ -62,7 +61,7 @@ fn close_pair<D: Domain>(
 }
 
 /// Places the missing names that the clause, of this number from 1, of the row called, and sets its calls. `rows` are the rows
-/// of the other called names. What it calls may be dormant still.
+/// of the other called names, and then of these too. What it calls may be dormant still.
 fn place_missing<D: Domain, W: Work>(
     task: &Task<D>,
     table: &mut Table<D::Value>,
@@ -71,7 +70,7 @@ fn place_missing<D: Domain, W: Work>(
     queue: &mut BinaryHeap<u64>,
     row: u64,
     number: u64,
-    rows: Vec<u64>,
+    rows: &mut Vec<u64>,
     missing: Vec<Key<D::Value>>,
     work: &mut W,
 ) -> Result<(), AllocError>
@@ -82,16 +81,15 @@ fn place_missing<D: Domain, W: Work>(
         → IsPastGrowth (D.plain task.now.domain.now) task.now.program.now task.now.limit begun (W.entries work.old) cost
         (state_of D.value_of (D.plain task.now.domain.now) table.old.rows arcs.old) (is_dirty unmet.old) None row (number - 1) called
         → Links (as_domain (D.plain task.now.domain.now)) (kept_rows D.value_of (D.plain task.now.domain.now) table.old.rows) called
-        (λ j. list_any (nat_eq j) rows.items) (map (key_name D.value_of) missing.items) false
+        (λ j. list_any (nat_eq j) rows.old.items) (map (key_name D.value_of) missing.items) false
         → IsAtWaking (D.plain task.now.domain.now) task.now.program.now task.now.limit begun (W.entries work.new) cost
         (state_of D.value_of (D.plain task.now.domain.now) table.new.rows arcs.new) (with_pair row number no_pair) (is_dirty unmet.new)) }
     ensures told { OnErr result ((begun : Origin) (cost : ℕ) (called : List (Name PredKey Abs))
         → IsPastGrowth (D.plain task.now.domain.now) task.now.program.now task.now.limit begun (W.entries work.old) cost
         (state_of D.value_of (D.plain task.now.domain.now) table.old.rows arcs.old) (is_dirty unmet.old) None row (number - 1) called
         → Links (as_domain (D.plain task.now.domain.now)) (kept_rows D.value_of (D.plain task.now.domain.now) table.old.rows) called
-        (λ j. list_any (nat_eq j) rows.items) (map (key_name D.value_of) missing.items) false
-        → HasLog (D.plain task.now.domain.now) task.now.program.now begun.told (W.entries work.new) 0
-        (IsLegalLog (as_domain (D.plain task.now.domain.now)) (as_program (D.plain task.now.domain.now) task.now.program.now) task.now.limit (start_of (D.plain task.now.domain.now) begun))) }
+        (λ j. list_any (nat_eq j) rows.old.items) (map (key_name D.value_of) missing.items) false
+        → HasLegalLog (D.plain task.now.domain.now) task.now.program.now task.now.limit begun (W.entries work.new)) }
     ensures adds { OnOk result (Adds (as_domain (D.plain task.now.domain.now)) task.now.limit (state_of D.value_of (D.plain task.now.domain.now) table.old.rows arcs.old) (state_of D.value_of (D.plain task.now.domain.now) table.new.rows arcs.new)) }
     ensures extends { OnOk result (Extends (as_domain (D.plain task.now.domain.now)) (kept_rows D.value_of (D.plain task.now.domain.now) table.old.rows) (kept_rows D.value_of (D.plain task.now.domain.now) table.new.rows)) }
     ensures queued { IsQueued (state_of D.value_of (D.plain task.now.domain.now) table.old.rows arcs.old) (heap_items queue.old) → OnOk result (IsQueued (state_of D.value_of (D.plain task.now.domain.now) table.new.rows arcs.new) (heap_items queue.new)) }
@@ -99,8 +97,7 @@ fn place_missing<D: Domain, W: Work>(
     if missing.is_empty() {
         return Ok(());
     }
-    let mut rows = rows;
-    let full = place_all(task, table, arcs, queue, &mut rows, missing, work)?;
+    let full = place_all(task, table, arcs, queue, rows, missing, work)?;
     close_pair(task, table, arcs, unmet, row, number, rows.as_slice(), full)
 }
 
@@ -133,8 +130,7 @@ pub fn place_called<D: Domain, W: Work>(
         (state_of D.value_of (D.plain task.now.domain.now) table.old.rows arcs.old) (is_dirty unmet.old) None row (number - 1) called
         → Links (as_domain (D.plain task.now.domain.now)) (kept_rows D.value_of (D.plain task.now.domain.now) table.old.rows) called
         (λ j. list_any (nat_eq j) rows.items) (map (key_name D.value_of) missing.items) false
-        → HasLog (D.plain task.now.domain.now) task.now.program.now begun.told (W.entries work.new) 0
-        (IsLegalLog (as_domain (D.plain task.now.domain.now)) (as_program (D.plain task.now.domain.now) task.now.program.now) task.now.limit (start_of (D.plain task.now.domain.now) begun))) }
+        → HasLegalLog (D.plain task.now.domain.now) task.now.program.now task.now.limit begun (W.entries work.new)) }
     ensures shifts { IfOk result (Shifts (as_domain (D.plain task.now.domain.now))
         (as_program (D.plain task.now.domain.now) task.now.program.now) task.now.limit
         (λ pred. (D.plain task.now.domain.now).rank) (state_of D.value_of (D.plain task.now.domain.now) table.old.rows arcs.old) (state_of D.value_of (D.plain task.now.domain.now) table.new.rows arcs.new)) }
@@ -142,8 +138,9 @@ pub fn place_called<D: Domain, W: Work>(
     ensures queued { IsQueued (state_of D.value_of (D.plain task.now.domain.now) table.old.rows arcs.old) (heap_items queue.old) → OnOk result (IsQueued (state_of D.value_of (D.plain task.now.domain.now) table.new.rows arcs.new) (heap_items queue.new)) }
 {
     let before = table.live();
+    let mut rows = rows;
     place_missing(
-        task, table, arcs, unmet, queue, row, number, rows, missing, work,
+        task, table, arcs, unmet, queue, row, number, &mut rows, missing, work,
     )?;
     meet_called(task, table, arcs, unmet, queue, row, number, work)?;
     Ok(Change::of_rows(before < table.live()))

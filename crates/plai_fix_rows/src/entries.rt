@@ -3,7 +3,6 @@ ghost use Rattle.std.specs.Prelude.{◌≡◌, ◌⊎◌, ℕ, ◌≤◌, ◌<�
 ghost use Rattle.std.specs.BinaryHeap.{heap_items};
 ghost use Rattle.plai_theory.specs.Domain.{Name};
 ghost use Rattle.plai_theory.specs.Words.{IsIn};
-ghost use Rattle.plai_theory.specs.LegalWork.{IsLegalLog};
 ghost use Rattle.plai_terms.specs.declared.abs.Abs.{Abs};
 ghost use Rattle.plai_terms.specs.declared.pred_key.PredKey.{PredKey};
 ghost use Rattle.plai_domain.specs.declared.work.WorkEntry.{WorkEntry};
@@ -13,8 +12,8 @@ ghost use Rattle.plai_eval.specs.Meaning.{as_domain, as_program};
 ghost use Rattle.plai_fix_laws.specs.WorkStates.{Extends, IsNamed, kept_live, AreOfRows, HasLiveRow, AreOpened};
 ghost use Rattle.plai_fix_rows.specs.Tables.{key_name, kept_rows, state_of};
 ghost use Rattle.plai_fix_laws.specs.Queues.{IsQueued};
-ghost use Rattle.plai_fix_rows.specs.Told.{start_of, Origin, HasLog};
-ghost use Rattle.plai_fix_rows.specs.Solving.{IsAtWork};
+ghost use Rattle.plai_fix_rows.specs.Told.{Origin, HasLegalLog};
+ghost use Rattle.plai_fix_rows.specs.Solving.{IsAtWork, Places, GoesOn};
 ghost use Rattle.plai_fix_rows.specs.Marks.{AreMarkedAs};
 
 use crate::meeting::meet_entry;
@@ -55,16 +54,13 @@ fn place_entry<D: Domain, W: Work>(
     requires well_formed { IsWellFormed task.now.program.now }
     requires entry { IsIn (key_name D.value_of key) (as_program (D.plain task.now.domain.now) task.now.program.now).entries }
     requires of_rows { AreOfRows (state_of D.value_of (D.plain task.now.domain.now) table.old.rows arcs.old) }
-    ensures at_work { OnOk result ((begun : Origin) (cost : ℕ)
-        → IsAtWork (D.plain task.now.domain.now) task.now.program.now task.now.limit begun (W.entries work.old) cost
-        (state_of D.value_of (D.plain task.now.domain.now) table.old.rows arcs.old) (is_dirty unmet.old)
-        → IsAtWork (D.plain task.now.domain.now) task.now.program.now task.now.limit begun (W.entries work.new) cost
-        (state_of D.value_of (D.plain task.now.domain.now) table.new.rows arcs.new) (is_dirty unmet.new)) }
+    ensures at_work { OnOk result (GoesOn (D.plain task.now.domain.now) task.now.program.now task.now.limit
+        (W.entries work.old) (state_of D.value_of (D.plain task.now.domain.now) table.old.rows arcs.old) (is_dirty unmet.old)
+        (W.entries work.new) (state_of D.value_of (D.plain task.now.domain.now) table.new.rows arcs.new) (is_dirty unmet.new)) }
     ensures told { OnErr result ((begun : Origin) (cost : ℕ)
         → IsAtWork (D.plain task.now.domain.now) task.now.program.now task.now.limit begun (W.entries work.old) cost
         (state_of D.value_of (D.plain task.now.domain.now) table.old.rows arcs.old) (is_dirty unmet.old)
-        → HasLog (D.plain task.now.domain.now) task.now.program.now begun.told (W.entries work.new) 0
-        (IsLegalLog (as_domain (D.plain task.now.domain.now)) (as_program (D.plain task.now.domain.now) task.now.program.now) task.now.limit (start_of (D.plain task.now.domain.now) begun))) }
+        → HasLegalLog (D.plain task.now.domain.now) task.now.program.now task.now.limit begun (W.entries work.new)) }
     ensures of_rows { OnOk result (AreOfRows (state_of D.value_of (D.plain task.now.domain.now) table.new.rows arcs.new)) }
     ensures live { OnOk result (HasLiveRow (as_domain (D.plain task.now.domain.now)) (kept_rows D.value_of (D.plain task.now.domain.now) table.new.rows) (key_name D.value_of key)
         ⊎ (task.now.limit ≤ kept_live (as_domain (D.plain task.now.domain.now)) (kept_rows D.value_of (D.plain task.now.domain.now) table.new.rows))) }
@@ -90,16 +86,13 @@ pub fn place_entries<D: Domain, W: Work>(
     requires well_formed { IsWellFormed task.now.program.now }
     requires keys { map (key_name D.value_of) keys.items ≡ (as_program (D.plain task.now.domain.now) task.now.program.now).entries }
     requires of_rows { AreOfRows (state_of D.value_of (D.plain task.now.domain.now) table.old.rows arcs.old) }
-    ensures at_work { OnOk result ((begun : Origin) (cost : ℕ)
-        → IsAtWork (D.plain task.now.domain.now) task.now.program.now task.now.limit begun (W.entries work.old) cost
-        (state_of D.value_of (D.plain task.now.domain.now) table.old.rows arcs.old) (is_dirty unmet.old)
-        → IsAtWork (D.plain task.now.domain.now) task.now.program.now task.now.limit begun (W.entries work.new) cost
-        (state_of D.value_of (D.plain task.now.domain.now) table.new.rows arcs.new) (is_dirty unmet.new)) }
+    ensures at_work { OnOk result (GoesOn (D.plain task.now.domain.now) task.now.program.now task.now.limit
+        (W.entries work.old) (state_of D.value_of (D.plain task.now.domain.now) table.old.rows arcs.old) (is_dirty unmet.old)
+        (W.entries work.new) (state_of D.value_of (D.plain task.now.domain.now) table.new.rows arcs.new) (is_dirty unmet.new)) }
     ensures told { OnErr result ((begun : Origin) (cost : ℕ)
         → IsAtWork (D.plain task.now.domain.now) task.now.program.now task.now.limit begun (W.entries work.old) cost
         (state_of D.value_of (D.plain task.now.domain.now) table.old.rows arcs.old) (is_dirty unmet.old)
-        → HasLog (D.plain task.now.domain.now) task.now.program.now begun.told (W.entries work.new) 0
-        (IsLegalLog (as_domain (D.plain task.now.domain.now)) (as_program (D.plain task.now.domain.now) task.now.program.now) task.now.limit (start_of (D.plain task.now.domain.now) begun))) }
+        → HasLegalLog (D.plain task.now.domain.now) task.now.program.now task.now.limit begun (W.entries work.new)) }
     ensures opened { OnOk result (AreOpened (as_domain (D.plain task.now.domain.now))
         (as_program (D.plain task.now.domain.now) task.now.program.now) task.now.limit (kept_rows D.value_of (D.plain task.now.domain.now) table.new.rows)) }
     ensures queued { IsQueued (state_of D.value_of (D.plain task.now.domain.now) table.old.rows arcs.old) (heap_items queue.old) → OnOk result (IsQueued (state_of D.value_of (D.plain task.now.domain.now) table.new.rows arcs.new) (heap_items queue.new)) }

@@ -3,7 +3,6 @@ ghost use Rattle.std.specs.Prelude.{◌≡◌, ◌⊎◌, ◌≤◌, ◌<◌, �
 ghost use Rattle.std.specs.BinaryHeap.{heap_items};
 ghost use Rattle.plai_theory.specs.Words.{IsIn};
 ghost use Rattle.plai_theory.specs.Domain.{Name};
-ghost use Rattle.plai_theory.specs.LegalWork.{IsLegalLog};
 ghost use Rattle.plai_terms.specs.declared.abs.Abs.{Abs};
 ghost use Rattle.plai_terms.specs.declared.pred_key.PredKey.{PredKey};
 ghost use Rattle.plai_clauses.specs.WellFormed.{IsWellFormed};
@@ -12,8 +11,8 @@ ghost use Rattle.plai_eval.specs.Meaning.{as_domain, as_program};
 ghost use Rattle.plai_fix_laws.specs.WorkStates.{Extends, IsNamed, is_live, no_pair, with_pair, kept_live};
 ghost use Rattle.plai_fix_rows.specs.Tables.{kept_rows, state_of};
 ghost use Rattle.plai_fix_laws.specs.Queues.{IsQueued};
-ghost use Rattle.plai_fix_rows.specs.Solving.{listed, IsAtWork, IsAtWaking, IsMeeting};
-ghost use Rattle.plai_fix_rows.specs.Told.{start_of, Origin, HasLog};
+ghost use Rattle.plai_fix_rows.specs.Solving.{IsAtWork, IsAtWaking, Rouses, IsMeeting, listed};
+ghost use Rattle.plai_fix_rows.specs.Told.{Origin, HasLegalLog};
 ghost use Rattle.plai_fix_laws.specs.Measures.{Adds};
 
 use crate::task::Task;
@@ -43,8 +42,7 @@ fn meet_calls<D: Domain, W: Work>(
         (is_call arcs.now row number) full) }
     ensures told { OnErr result ((begun : Origin) (cost : ℕ) (unmet : ℕ → ℕ → Bool)
         → IsAtWaking (D.plain task.now.domain.now) task.now.program.now task.now.limit begun (W.entries work.old) cost (state_of D.value_of (D.plain task.now.domain.now) table.old.rows arcs.now) (with_pair row number (listed pending.old.items)) unmet
-        → HasLog (D.plain task.now.domain.now) task.now.program.now begun.told (W.entries work.new) 0
-        (IsLegalLog (as_domain (D.plain task.now.domain.now)) (as_program (D.plain task.now.domain.now) task.now.program.now) task.now.limit (start_of (D.plain task.now.domain.now) begun))) }
+        → HasLegalLog (D.plain task.now.domain.now) task.now.program.now task.now.limit begun (W.entries work.new)) }
     ensures adds { OnOk result (Adds (as_domain (D.plain task.now.domain.now)) task.now.limit (state_of D.value_of (D.plain task.now.domain.now) table.old.rows arcs.now) (state_of D.value_of (D.plain task.now.domain.now) table.new.rows arcs.now)) }
     ensures extends { OnOk result (Extends (as_domain (D.plain task.now.domain.now)) (kept_rows D.value_of (D.plain task.now.domain.now) table.old.rows) (kept_rows D.value_of (D.plain task.now.domain.now) table.new.rows)) }
     ensures unmoved { OnOk result (kept_live (as_domain (D.plain task.now.domain.now)) (kept_rows D.value_of (D.plain task.now.domain.now) table.new.rows) ≡ kept_live (as_domain (D.plain task.now.domain.now)) (kept_rows D.value_of (D.plain task.now.domain.now) table.old.rows) → pending.new.items ≡ pending.old.items) }
@@ -78,8 +76,7 @@ fn meet_pair<D: Domain, W: Work>(
         → IsAtWaking (D.plain task.now.domain.now) task.now.program.now task.now.limit begun (W.entries work.new) cost (state_of D.value_of (D.plain task.now.domain.now) table.new.rows arcs.now) (listed pending.new.items) (is_dirty unmet.new)) }
     ensures told { OnErr result ((begun : Origin) (cost : ℕ)
         → IsAtWaking (D.plain task.now.domain.now) task.now.program.now task.now.limit begun (W.entries work.old) cost (state_of D.value_of (D.plain task.now.domain.now) table.old.rows arcs.now) (with_pair row number (listed pending.old.items)) (is_dirty unmet.old)
-        → HasLog (D.plain task.now.domain.now) task.now.program.now begun.told (W.entries work.new) 0
-        (IsLegalLog (as_domain (D.plain task.now.domain.now)) (as_program (D.plain task.now.domain.now) task.now.program.now) task.now.limit (start_of (D.plain task.now.domain.now) begun))) }
+        → HasLegalLog (D.plain task.now.domain.now) task.now.program.now task.now.limit begun (W.entries work.new)) }
     ensures adds { OnOk result (Adds (as_domain (D.plain task.now.domain.now)) task.now.limit (state_of D.value_of (D.plain task.now.domain.now) table.old.rows arcs.now) (state_of D.value_of (D.plain task.now.domain.now) table.new.rows arcs.now)) }
     ensures extends { OnOk result (Extends (as_domain (D.plain task.now.domain.now)) (kept_rows D.value_of (D.plain task.now.domain.now) table.old.rows) (kept_rows D.value_of (D.plain task.now.domain.now) table.new.rows)) }
     ensures unmoved { OnOk result (kept_live (as_domain (D.plain task.now.domain.now)) (kept_rows D.value_of (D.plain task.now.domain.now) table.new.rows) ≡ kept_live (as_domain (D.plain task.now.domain.now)) (kept_rows D.value_of (D.plain task.now.domain.now) table.old.rows) → pending.new.items ≡ pending.old.items) }
@@ -110,8 +107,7 @@ fn meet_some<D: Domain, W: Work>(
         → IsAtWaking (D.plain task.now.domain.now) task.now.program.now task.now.limit begun (W.entries work.new) cost (state_of D.value_of (D.plain task.now.domain.now) table.new.rows arcs.now) (listed pending.new.items) (is_dirty unmet.new)) }
     ensures told { OnErr result ((begun : Origin) (cost : ℕ)
         → IsAtWaking (D.plain task.now.domain.now) task.now.program.now task.now.limit begun (W.entries work.old) cost (state_of D.value_of (D.plain task.now.domain.now) table.old.rows arcs.now) (listed pending.old.items) (is_dirty unmet.old)
-        → HasLog (D.plain task.now.domain.now) task.now.program.now begun.told (W.entries work.new) 0
-        (IsLegalLog (as_domain (D.plain task.now.domain.now)) (as_program (D.plain task.now.domain.now) task.now.program.now) task.now.limit (start_of (D.plain task.now.domain.now) begun))) }
+        → HasLegalLog (D.plain task.now.domain.now) task.now.program.now task.now.limit begun (W.entries work.new)) }
     ensures woken { IfOk result (λ woken. woken ≡ true → kept_live (as_domain (D.plain task.now.domain.now)) (kept_rows D.value_of (D.plain task.now.domain.now) table.old.rows) < kept_live (as_domain (D.plain task.now.domain.now)) (kept_rows D.value_of (D.plain task.now.domain.now) table.new.rows)) }
     ensures whole { IfOk result (λ woken. woken ≡ false → pending.new.items ≡ []) }
     ensures adds { OnOk result (Adds (as_domain (D.plain task.now.domain.now)) task.now.limit (state_of D.value_of (D.plain task.now.domain.now) table.old.rows arcs.now) (state_of D.value_of (D.plain task.now.domain.now) table.new.rows arcs.now)) }
@@ -144,8 +140,7 @@ fn meet_all<D: Domain, W: Work>(
         → IsAtWork (D.plain task.now.domain.now) task.now.program.now task.now.limit begun (W.entries work.new) cost (state_of D.value_of (D.plain task.now.domain.now) table.new.rows arcs.now) (is_dirty unmet.new)) }
     ensures told { OnErr result ((begun : Origin) (cost : ℕ)
         → IsAtWaking (D.plain task.now.domain.now) task.now.program.now task.now.limit begun (W.entries work.old) cost (state_of D.value_of (D.plain task.now.domain.now) table.old.rows arcs.now) (listed pending.old.items) (is_dirty unmet.old)
-        → HasLog (D.plain task.now.domain.now) task.now.program.now begun.told (W.entries work.new) 0
-        (IsLegalLog (as_domain (D.plain task.now.domain.now)) (as_program (D.plain task.now.domain.now) task.now.program.now) task.now.limit (start_of (D.plain task.now.domain.now) begun))) }
+        → HasLegalLog (D.plain task.now.domain.now) task.now.program.now task.now.limit begun (W.entries work.new)) }
     ensures adds { OnOk result (Adds (as_domain (D.plain task.now.domain.now)) task.now.limit (state_of D.value_of (D.plain task.now.domain.now) table.old.rows arcs.now) (state_of D.value_of (D.plain task.now.domain.now) table.new.rows arcs.now)) }
     ensures extends { OnOk result (Extends (as_domain (D.plain task.now.domain.now)) (kept_rows D.value_of (D.plain task.now.domain.now) table.old.rows) (kept_rows D.value_of (D.plain task.now.domain.now) table.new.rows)) }
     ensures queued { IsQueued (state_of D.value_of (D.plain task.now.domain.now) table.old.rows arcs.now) (heap_items queue.old) → OnOk result (IsQueued (state_of D.value_of (D.plain task.now.domain.now) table.new.rows arcs.now) (heap_items queue.new)) }
@@ -175,8 +170,7 @@ pub(crate) fn meet_called<D: Domain, W: Work>(
         → IsAtWork (D.plain task.now.domain.now) task.now.program.now task.now.limit begun (W.entries work.new) cost (state_of D.value_of (D.plain task.now.domain.now) table.new.rows arcs.now) (is_dirty unmet.new)) }
     ensures told { OnErr result ((begun : Origin) (cost : ℕ)
         → IsAtWaking (D.plain task.now.domain.now) task.now.program.now task.now.limit begun (W.entries work.old) cost (state_of D.value_of (D.plain task.now.domain.now) table.old.rows arcs.now) (with_pair row number no_pair) (is_dirty unmet.old)
-        → HasLog (D.plain task.now.domain.now) task.now.program.now begun.told (W.entries work.new) 0
-        (IsLegalLog (as_domain (D.plain task.now.domain.now)) (as_program (D.plain task.now.domain.now) task.now.program.now) task.now.limit (start_of (D.plain task.now.domain.now) begun))) }
+        → HasLegalLog (D.plain task.now.domain.now) task.now.program.now task.now.limit begun (W.entries work.new)) }
     ensures adds { OnOk result (Adds (as_domain (D.plain task.now.domain.now)) task.now.limit (state_of D.value_of (D.plain task.now.domain.now) table.old.rows arcs.now) (state_of D.value_of (D.plain task.now.domain.now) table.new.rows arcs.now)) }
     ensures extends { OnOk result (Extends (as_domain (D.plain task.now.domain.now)) (kept_rows D.value_of (D.plain task.now.domain.now) table.old.rows) (kept_rows D.value_of (D.plain task.now.domain.now) table.new.rows)) }
     ensures queued { IsQueued (state_of D.value_of (D.plain task.now.domain.now) table.old.rows arcs.now) (heap_items queue.old) → OnOk result (IsQueued (state_of D.value_of (D.plain task.now.domain.now) table.new.rows arcs.now) (heap_items queue.new)) }
@@ -214,8 +208,7 @@ pub(crate) fn meet_entry<D: Domain, W: Work>(
     ensures told { OnErr result ((begun : Origin) (cost : ℕ) (x : Name PredKey Abs)
         → IsNamed (as_domain (D.plain task.now.domain.now)) (kept_rows D.value_of (D.plain task.now.domain.now) table.old.rows) row x → IsIn x (as_program (D.plain task.now.domain.now) task.now.program.now).entries
         → IsAtWork (D.plain task.now.domain.now) task.now.program.now task.now.limit begun (W.entries work.old) cost (state_of D.value_of (D.plain task.now.domain.now) table.old.rows arcs.now) (is_dirty unmet.old)
-        → HasLog (D.plain task.now.domain.now) task.now.program.now begun.told (W.entries work.new) 0
-        (IsLegalLog (as_domain (D.plain task.now.domain.now)) (as_program (D.plain task.now.domain.now) task.now.program.now) task.now.limit (start_of (D.plain task.now.domain.now) begun))) }
+        → HasLegalLog (D.plain task.now.domain.now) task.now.program.now task.now.limit begun (W.entries work.new)) }
     ensures live { OnOk result (row < length table.old.rows
         → (is_live (as_domain (D.plain task.now.domain.now)) (kept_rows D.value_of (D.plain task.now.domain.now) table.new.rows) row ≡ true) ⊎ (task.now.limit ≤ kept_live (as_domain (D.plain task.now.domain.now)) (kept_rows D.value_of (D.plain task.now.domain.now) table.new.rows))) }
     ensures extends { OnOk result (Extends (as_domain (D.plain task.now.domain.now)) (kept_rows D.value_of (D.plain task.now.domain.now) table.old.rows) (kept_rows D.value_of (D.plain task.now.domain.now) table.new.rows)) }

@@ -3,7 +3,6 @@ ghost use Rattle.std.specs.Prelude.{◌≡◌, ℕ, ◌≤◌, ◌<◌, ◌&&◌
 ghost use Rattle.std.specs.List.{list_any};
 ghost use Rattle.std.specs.BinaryHeap.{heap_items};
 ghost use Rattle.plai_theory.specs.Domain.{Name};
-ghost use Rattle.plai_theory.specs.LegalWork.{IsLegalLog};
 ghost use Rattle.plai_terms.specs.declared.abs.Abs.{Abs};
 ghost use Rattle.plai_terms.specs.declared.pred_key.PredKey.{PredKey};
 ghost use Rattle.plai_domain.specs.declared.key.Key.{Key};
@@ -20,7 +19,7 @@ ghost use Rattle.plai_fix_laws.specs.WorkStates.{Extends, AreOfRows};
 ghost use Rattle.plai_fix_rows.specs.Marks.{is_number};
 ghost use Rattle.plai_fix_rows.specs.Tables.{key_name, kept_rows, state_of};
 ghost use Rattle.plai_fix_laws.specs.Queues.{IsQueued};
-ghost use Rattle.plai_fix_rows.specs.Told.{start_of, Origin, HasLog};
+ghost use Rattle.plai_fix_rows.specs.Told.{Origin, HasLegalLog};
 ghost use Rattle.plai_fix_rows.specs.Solving.{Places, IsPlacing};
 ghost use Rattle.plai_fix_laws.specs.Measures.{Adds};
 
@@ -112,9 +111,7 @@ fn place_next<D: Domain, W: Work>(
         → IsPlacing (D.plain task.now.domain.now) task.now.program.now task.now.limit begun (W.entries work.old) cost
         (state_of D.value_of (D.plain task.now.domain.now) table.old.rows arcs.old) unmet n i called (λ j. list_any (nat_eq j) rows.old.items)
         (left ++ key_name D.value_of name ∷ []) full
-        → HasLog (D.plain task.now.domain.now) task.now.program.now begun.told (W.entries work.new) 0
-        (IsLegalLog (as_domain (D.plain task.now.domain.now)) (as_program (D.plain task.now.domain.now) task.now.program.now) task.now.limit
-        (start_of (D.plain task.now.domain.now) begun))) }
+        → HasLegalLog (D.plain task.now.domain.now) task.now.program.now task.now.limit begun (W.entries work.new)) }
     ensures of_rows { OnOk result (AreOfRows (state_of D.value_of (D.plain task.now.domain.now) table.new.rows arcs.new)) }
     ensures adds { OnOk result (Adds (as_domain (D.plain task.now.domain.now)) task.now.limit
         (state_of D.value_of (D.plain task.now.domain.now) table.old.rows arcs.old)
@@ -155,9 +152,7 @@ pub(crate) fn place_all<D: Domain, W: Work>(
         → IsPlacing (D.plain task.now.domain.now) task.now.program.now task.now.limit begun (W.entries work.old) cost
         (state_of D.value_of (D.plain task.now.domain.now) table.old.rows arcs.old) unmet n i called (λ j. list_any (nat_eq j) rows.old.items)
         (map (key_name D.value_of) missing.items) false
-        → HasLog (D.plain task.now.domain.now) task.now.program.now begun.told (W.entries work.new) 0
-        (IsLegalLog (as_domain (D.plain task.now.domain.now)) (as_program (D.plain task.now.domain.now) task.now.program.now) task.now.limit
-        (start_of (D.plain task.now.domain.now) begun))) }
+        → HasLegalLog (D.plain task.now.domain.now) task.now.program.now task.now.limit begun (W.entries work.new)) }
     ensures adds { OnOk result (Adds (as_domain (D.plain task.now.domain.now)) task.now.limit
         (state_of D.value_of (D.plain task.now.domain.now) table.old.rows arcs.old)
         (state_of D.value_of (D.plain task.now.domain.now) table.new.rows arcs.new)) }

@@ -1,7 +1,6 @@
 //! Dormant rows that are live again, and with them all that they call.
 ghost use Rattle.std.specs.Prelude.{◌≡◌, ◌⊎◌, ◌≤◌, ◌<◌, ◌&&◌, ◌||◌, ℕ, not, nat_eq, Bool, true, false, [], List, Option, length, slice_get, Some, IfOk, OnOk, OnErr};
 ghost use Rattle.std.specs.BinaryHeap.{heap_items};
-ghost use Rattle.plai_theory.specs.LegalWork.{IsLegalLog};
 ghost use Rattle.plai_domain.specs.declared.key.Key.{Key};
 ghost use Rattle.plai_domain.specs.declared.work.WorkEntry.{WorkEntry};
 ghost use Rattle.plai_domain.specs.declared.work.WorkEntry.TheVariants as entries;
@@ -16,8 +15,7 @@ ghost use Rattle.plai_fix_laws.specs.WorkStates.{Extends, is_live, with_pair, ke
 ghost use Rattle.plai_fix_laws.specs.Changes.{Wakes};
 ghost use Rattle.plai_fix_rows.specs.Tables.{kept_rows, state_of};
 ghost use Rattle.plai_fix_laws.specs.Queues.{IsQueued, Awaits};
-ghost use Rattle.plai_fix_rows.specs.Solving.{listed, Rouses, IsAtWork, IsAtWaking, IsMeeting};
-ghost use Rattle.plai_fix_rows.specs.Told.{Origin, HasLog};
+ghost use Rattle.plai_fix_rows.specs.Solving.{Rouses, listed};
 ghost use Rattle.plai_fix_laws.specs.Measures.{Adds};
 
 use crate::present::is_dormant;

@@ -4,8 +4,7 @@ use Rattle.plai_eval.specs.Meaning.{as_domain}
 use Rattle.plai_fix_laws.specs.WorkStates.{Extends}
 use Rattle.plai_fix_laws.specs.Measures.{kept_room}
 use Rattle.plai_fix_rows.specs.Tables.{kept_rows, state_of}
-use Rattle.plai_fix_laws.specs.Queues.{IsQueued}
-use Rattle.plai_fix_rows.specs.Solving.{IsAtWork}
+use Rattle.plai_fix_rows.specs.Solving.{IsReady}
 use Rattle.plai_fix.proofs.settling.settle.Given as goal
 
 -- what was told and counted at the start
@@ -20,9 +19,8 @@ invariant-loop g l =
     let old = kept_rows value_of p l.initial.table.rows in
     let now = kept_rows value_of p l.table.rows in
     record {
-      at_work : IsAtWork p l.task.program.now l.task.limit g.begun.origin (g.W.Work.entries l.work) (l.steps - g.begun.steps)
-          (state_of value_of p l.table.rows l.arcs) (is_dirty l.unmet);
-      queued : IsQueued (state_of value_of p l.table.rows l.arcs) (heap_items l.queue);
+      ready : IsReady p l.task.program.now l.task.limit g.begun.origin (g.W.Work.entries l.work) (l.steps - g.begun.steps)
+          (state_of value_of p l.table.rows l.arcs) (is_dirty l.unmet) (heap_items l.queue);
       extends : Extends (as_domain p) old now;
     }
 

@@ -17,8 +17,7 @@ loop-row-preserved g c =
     let moves : Moves (as_domain p) (as_program p c.args.task.now.program.now) limit (λ pred. p.rank) mid new Nothing =
     subst (Moves (as_domain p) (as_program p c.args.task.now.program.now) limit (λ pred. p.rank) mid new) c.in-Nothing.is c.in_ok-change.ensures.moves in
     record {
-      at_work = c.in_ok-change.ensures.at_work;
-      queued = c.in_ok-change.ensures.queued;
+      ready = record { at_work = c.in_ok-change.ensures.at_work; queued = c.in_ok-change.ensures.queued };
       extends = extends_then (as_domain p) (kept_rows value_of p c.args.table.now.rows) (kept_rows value_of p c.loop-row.table.rows)
           (kept_rows value_of p c.work_pair.new.table.rows)
           c.loop-row.invariant.extends c.in_ok-change.ensures.extends;
@@ -32,8 +31,7 @@ returns-in_default-2 g c =
     let value_of = g.D.Domain.value_of in
     let limit = c.args.task.now.limit in
     record {
-      at_work = c.in_ok-change.ensures.at_work;
-      queued = c.in_ok-change.ensures.queued;
+      ready = record { at_work = c.in_ok-change.ensures.at_work; queued = c.in_ok-change.ensures.queued };
       extends = extends_then (as_domain p) (kept_rows value_of p c.args.table.now.rows) (kept_rows value_of p c.loop-row.table.rows)
           (kept_rows value_of p c.work_pair.new.table.rows)
           c.loop-row.invariant.extends c.in_ok-change.ensures.extends;

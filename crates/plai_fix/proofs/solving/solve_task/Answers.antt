@@ -76,7 +76,7 @@ finish-requires-clause-one_row g c =
     let laws = g.met.D.Domain.lawful c.args.task.now.domain.now in
     let k = state_of value_of p c.settle.new.table.rows c.settle.new.arcs in
     own_rows p laws program c.requires.1.1.1.1.1.0 limit g.begun.origin (g.W.Work.entries c.settle.new.work) (c.settle.new.steps - g.begun.steps) k
-    (is_dirty c.settle.new.unmet) c.in_ok-settle.ensures.at_work
+    (is_dirty c.settle.new.unmet) c.in_ok-settle.ensures.ready.at_work
 
 pub finish-requires-clause-unmet : goal.finish-requires-clause-unmet
 finish-requires-clause-unmet g c =
@@ -90,14 +90,14 @@ finish-requires-clause-unmet g c =
     is_there _ value_of p c.settle.new.table.rows r
     (unmet_rows p laws program c.requires.1.1.1.1.1.0 limit g.begun.origin (g.W.Work.entries c.settle.new.work) (c.settle.new.steps - g.begun.steps) k
     (is_dirty c.settle.new.unmet)
-    c.in_ok-settle.ensures.at_work r m e)
+    c.in_ok-settle.ensures.ready.at_work r m e)
 
 pub returns-clause-solved : goal.returns-clause-solved
 returns-clause-solved g c =
     ok_more _ _ c.finish.result c.finish.ensures.solved
-    (λ h. h g.begun.origin (g.W.Work.entries c.settle.new.work) (c.settle.new.steps - g.begun.steps) c.in_ok-settle.ensures.at_work)
+    (λ h. h g.begun.origin (g.W.Work.entries c.settle.new.work) (c.settle.new.steps - g.begun.steps) c.in_ok-settle.ensures.ready.at_work)
 
 pub returns-clause-stops : goal.returns-clause-stops
 returns-clause-stops g c =
     if_err _ _ c.finish.result c.finish.ensures.stops
-    (λ fail h. h g.begun.origin (g.W.Work.entries c.settle.new.work) (c.settle.new.steps - g.begun.steps) c.in_ok-settle.ensures.at_work)
+    (λ fail h. h g.begun.origin (g.W.Work.entries c.settle.new.work) (c.settle.new.steps - g.begun.steps) c.in_ok-settle.ensures.ready.at_work)

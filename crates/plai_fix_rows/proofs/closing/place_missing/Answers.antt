@@ -28,8 +28,8 @@ returns-then-is_empty-clause-waking g c =
     (state_of value_of p rows c.args.arcs.now) (with_pair c.args.row z no_pair) (is_dirty c.args.unmet.now)) same
     (ends_told p laws c.args.task.now.program.now c.requires.well_formed c.args.task.now.limit begun (g.W.Work.entries c.args.work.now) cost
     (state_of value_of p rows c.args.arcs.now)
-    (is_dirty c.args.unmet.now) c.args.row (c.args.number - 1) called (λ j. list_any (nat_eq j) c.args.rows.items) past
-    (subst (λ ns. Links (as_domain p) (kept_rows value_of p rows) called (λ j. list_any (nat_eq j) c.args.rows.items) ns false)
+    (is_dirty c.args.unmet.now) c.args.row (c.args.number - 1) called (λ j. list_any (nat_eq j) c.args.rows.now.items) past
+    (subst (λ ns. Links (as_domain p) (kept_rows value_of p rows) called (λ j. list_any (nat_eq j) c.args.rows.now.items) ns false)
     (ap (map (key_name value_of)) empty) links))
 
 pub returns-in_err-full-clause-told : goal.returns-in_err-full-clause-told
@@ -42,7 +42,7 @@ returns-in_err-full-clause-told g c =
     c.in_err-full.ensures.told begun cost (is_dirty c.args.unmet.now) c.args.row (c.args.number - 1) called
     (starts_placing p laws c.args.task.now.program.now c.requires.well_formed c.args.task.now.limit begun (g.W.Work.entries c.args.work.now) cost
     (state_of value_of p c.args.table.now.rows c.args.arcs.now)
-    (is_dirty c.args.unmet.now) c.args.row (c.args.number - 1) called (λ j. list_any (nat_eq j) c.args.rows.items)
+    (is_dirty c.args.unmet.now) c.args.row (c.args.number - 1) called (λ j. list_any (nat_eq j) c.args.rows.now.items)
     (map (key_name value_of) c.args.missing.items) past links))
 
 pub returns-clause-waking : goal.returns-clause-waking
@@ -60,7 +60,7 @@ returns-clause-waking g c =
     (c.in_ok-full.ensures.placing begun cost (is_dirty c.args.unmet.now) c.args.row (c.args.number - 1) called
     (starts_placing p laws c.args.task.now.program.now c.requires.well_formed c.args.task.now.limit begun (g.W.Work.entries c.args.work.now) cost
     (state_of value_of p c.args.table.now.rows c.args.arcs.now)
-    (is_dirty c.args.unmet.now) c.args.row (c.args.number - 1) called (λ j. list_any (nat_eq j) c.args.rows.items)
+    (is_dirty c.args.unmet.now) c.args.row (c.args.number - 1) called (λ j. list_any (nat_eq j) c.args.rows.now.items)
     (map (key_name value_of) c.args.missing.items) past links))))
 
 pub returns-clause-told : goal.returns-clause-told
@@ -77,7 +77,7 @@ returns-clause-told g c =
     (c.in_ok-full.ensures.placing begun cost (is_dirty c.args.unmet.now) c.args.row (c.args.number - 1) called
     (starts_placing p laws c.args.task.now.program.now c.requires.well_formed c.args.task.now.limit begun (g.W.Work.entries c.args.work.now) cost
     (state_of value_of p c.args.table.now.rows c.args.arcs.now)
-    (is_dirty c.args.unmet.now) c.args.row (c.args.number - 1) called (λ j. list_any (nat_eq j) c.args.rows.items)
+    (is_dirty c.args.unmet.now) c.args.row (c.args.number - 1) called (λ j. list_any (nat_eq j) c.args.rows.now.items)
     (map (key_name value_of) c.args.missing.items) past links)))
 
 pub returns-clause-adds : goal.returns-clause-adds
