@@ -4,7 +4,7 @@ use Rattle.plai_session.proofs.Keeping.{kept_taken}
 use Rattle.plai_session.proofs.session.Session.take_over.Goals as goal
 
 pub returns-in-Ok-clause-answer : goal.returns-in-Ok-clause-answer
-returns-in-Ok-clause-answer g c = rw (← c.self.view_is) (refl, refl, refl, rw (← c.self.view_is) at c.requires, c.in-Ok.ensures.answer)
+returns-in-Ok-clause-answer g c = rw (← c.self.view_is) (refl, refl, refl, rw (← c.self.view_is) at c.requires.found, c.in-Ok.ensures.answer)
 
 pub returns-in-Ok-clause-work : goal.returns-in-Ok-clause-work
 returns-in-Ok-clause-work g c =
