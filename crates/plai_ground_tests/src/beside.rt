@@ -1,4 +1,4 @@
-//! Generated clauses, beside lists of models.
+//! Generated clauses, and properties, beside lists of models.
 use crate::second::Models;
 use plai_compare::{compare_clauses, compare_properties};
 use plai_pos::Ground;
@@ -25,6 +25,6 @@ fn clauses_have_the_same_models(rt: HostRuntime) {
 fn properties_have_the_same_models(rt: HostRuntime) {
     for arity in 0..4 {
         let found = compare_properties(rt.alloc(), &Ground::new(), &Models {}, arity);
-        assert_eq!(rt; found, Ok(()), "{arity} arguments");
+        assert!(rt; found.is_ok(), "{arity} arguments");
     }
 }

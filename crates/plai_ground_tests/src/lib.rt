@@ -1,4 +1,4 @@
-//! Tests of `Ground`: beside a second program over lists of models, and of clauses that are evaluated under it.
+//! Tests of `Ground` beside a second program over lists of models.
 #![tactic(auto)]
 
 #[cfg(test)]
@@ -7,5 +7,3 @@ mod beside;
 mod models;
 #[cfg(test)]
 mod second;
-#[cfg(test)]
-mod tests;
