@@ -1,5 +1,5 @@
 // How many evaluations a row takes, as an object counts them that is told of the work.
-use crate::engines::{by_told_work, loaded};
+use crate::analysed::{by_told_work, loaded};
 use plai_clauses::Program;
 use plai_depth::DepthK;
 use plai_domain::{Domain, Key, Work, WorkEntry};

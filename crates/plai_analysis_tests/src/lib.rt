@@ -1,12 +1,12 @@
-//! Tests of the analysis by legal work, beside the plain engine by rounds.
+//! Tests of the analysis by legal work.
 #![tactic(auto)]
 
+#[cfg(test)]
+mod analysed;
 #[cfg(test)]
 mod cases;
 #[cfg(test)]
 mod counts;
-#[cfg(test)]
-mod engines;
 #[cfg(test)]
 mod limits;
 #[cfg(test)]

@@ -1,9 +1,9 @@
-// A program with several entries and with assertions: from the first limit of rows that is enough on, its table is that of
-// the plain engine.
-use crate::engines::{by_rounds, by_work, loaded};
+// A program with several entries and with assertions: from the first limit of rows that is enough on, its table is one and
+// the same.
+use crate::analysed::{by_work, loaded};
 use plai_clauses::Program;
-use plai_pos::Ground;
 use plai_fix::SolveFail;
+use plai_pos::Ground;
 use std::alloc::Global;
 use std::process::Abort;
 use std::test::Fail;
@@ -46,7 +46,7 @@ fn the_first_limit_that_is_enough(rt: HostRuntime) -> Result<(), Fail> {
     for limit in 0..need {
         assert!(rt; is_stopped(alloc, &program, limit)?, "{limit}");
     }
-    let wanted = by_rounds(alloc, &Ground::new(), &program, 1_000)?;
+    let wanted = by_work(alloc, &Ground::new(), &program, 1_000)?;
     assert_eq!(rt; wanted.rows.as_slice().len(), 13);
     assert_eq!(rt; wanted.verdicts.as_slice().len(), 2);
     for limit in [need, need + 1] {

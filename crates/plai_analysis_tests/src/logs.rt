@@ -1,5 +1,5 @@
 // What is told of the work on a small program.
-use crate::engines::{by_told_work, loaded};
+use crate::analysed::{by_told_work, loaded};
 use plai_base::Mask;
 use plai_domain::{WorkEntry, WorkLog};
 use plai_pos::Ground;

@@ -2,7 +2,7 @@
 ghost use Rattle.std.specs.Prelude.{◌≡◌, ◌<◌, ◌^◌, length, IfOk};
 ghost use Rattle.plai_script.specs.Readable.{IsReadableEdit};
 
-use crate::engines::loaded;
+use crate::analysed::loaded;
 use plai_base::Steps;
 use plai_clauses::{EditCause, Program};
 use plai_depth::DepthK;

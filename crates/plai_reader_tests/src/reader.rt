@@ -2,7 +2,7 @@ ghost use Rattle.std.specs.Prelude.{◌≤◌, All, IfOk, length};
 ghost use Rattle.plai_lex.specs.Tokens.{IsWritten};
 
 use plai_lex::{Lexer, Token};
-use plai_reader::{OpFail, OpKind, OpTable, ReadTermFail, read_term};
+use plai_reader::{OpKind, OpTable, ReadTermFail, read_term};
 use plai_terms::{Args, Name, Term, print_term};
 use std::alloc::Global;
 use std::test::Fail;
@@ -77,18 +77,19 @@ fn readings(rt: HostRuntime) -> Result<(), Fail> {
     let ops = OpTable::standard(alloc)?;
     for (text, expected) in &READINGS {
         let found = answer(alloc, &ops, text)?;
-        assert_eq!(rt; found.as_slice(), expected.as_bytes(), "{text}");
+        assert!(rt; found.as_slice() == expected.as_bytes(), "{text}");
     }
     Ok(())
 }
 
-/// So many times the first, then the middle, and so many times the last.
+/// So many times the first, then the middle, so many times the last, and the end.
 fn nested(
     alloc: Global,
     count: u32,
     first: &str,
     middle: &str,
     last: &str,
+    end: &str,
 ) -> Result<String, Fail> {
     let mut text = String::new(alloc);
     for _ in 0..count {
@@ -98,76 +99,34 @@ fn nested(
     for _ in 0..count {
         text.push_str(last)?;
     }
-    text.push_str(".")?;
+    text.push_str(end)?;
     Ok(text)
 }
+
+/// What texts are made of, how their answers begin, and how long these are.
+const LIMITS: [(u32, &str, &str, &str, &str, &str, usize); 10] = [
+    (1_999, "f(", "a", ")", ".", "f(f(f(", 5_998),
+    (2_000, "f(", "a", ")", ".", "too deep", 8),
+    (100_000, "(", "a", ")", ".", "a", 1),
+    (10_000, "f(", "a", ")", ".", "too deep", 8),
+    (10_000, "f(", "a b", ")", ".", "syntax", 6),
+    (1_998, "a,", "[a", "", ".", "syntax", 6),
+    (1_998, "", "[a", ",a", "].", "'.'(a,'.'(a,", 13_995),
+    (1_999, "", "[a", ",a", "].", "too deep", 8),
+    (254, "", "f(a", ",a", ").", "f(a,a", 512),
+    (255, "", "f(a", ",a", ").", "arity too large", 15),
+];
 
 #[test]
 fn limits(rt: HostRuntime) -> Result<(), Fail> {
     let alloc = rt.alloc();
     let ops = OpTable::standard(alloc)?;
-    let text = nested(alloc, 1_999, "f(", "a", ")")?;
-    assert_eq!(rt; answer(alloc, &ops, text.as_str())?.len(), 5_998);
-    let text = nested(alloc, 2_000, "f(", "a", ")")?;
-    assert_eq!(rt;
-        answer(alloc, &ops, text.as_str())?.as_slice(),
-        b"too deep".as_slice()
-    );
-    let text = nested(alloc, 100_000, "(", "a", ")")?;
-    assert_eq!(rt;
-        answer(alloc, &ops, text.as_str())?.as_slice(),
-        b"a".as_slice()
-    );
-    let text = nested(alloc, 10_000, "f(", "a", ")")?;
-    assert_eq!(rt;
-        answer(alloc, &ops, text.as_str())?.as_slice(),
-        b"too deep".as_slice()
-    );
-    let text = nested(alloc, 10_000, "f(", "a b", ")")?;
-    assert_eq!(rt;
-        answer(alloc, &ops, text.as_str())?.as_slice(),
-        b"syntax".as_slice()
-    );
-    let text = nested(alloc, 1_998, "a,", "[a", "")?;
-    assert_eq!(rt;
-        answer(alloc, &ops, text.as_str())?.as_slice(),
-        b"syntax".as_slice()
-    );
-    Ok(())
-}
-
-/// `[a,..,a]` or `f(a,..,a)` with one more item than the count.
-fn items(alloc: Global, first: &str, count: u32, last: &str) -> Result<String, Fail> {
-    let mut text = String::from_str(alloc, first)?;
-    for _ in 0..count {
-        text.push_str("a,")?;
+    for (count, first, middle, last, end, start, length) in &LIMITS {
+        let text = nested(alloc, *count, first, middle, last, end)?;
+        let found = answer(alloc, &ops, text.as_str())?;
+        let is_so = found.len() == *length && found.as_slice().starts_with(start.as_bytes());
+        assert!(rt; is_so, "{count} {middle}");
     }
-    text.push_str("a")?;
-    text.push_str(last)?;
-    Ok(text)
-}
-
-#[test]
-fn items_within_limits(rt: HostRuntime) -> Result<(), Fail> {
-    let alloc = rt.alloc();
-    let ops = OpTable::standard(alloc)?;
-    let text = items(alloc, "[", 1_998, "].")?;
-    assert_ne!(rt;
-        answer(alloc, &ops, text.as_str())?.as_slice(),
-        b"too deep".as_slice()
-    );
-    let text = items(alloc, "[", 1_999, "].")?;
-    assert_eq!(rt;
-        answer(alloc, &ops, text.as_str())?.as_slice(),
-        b"too deep".as_slice()
-    );
-    let text = items(alloc, "f(", 254, ").")?;
-    assert_eq!(rt; answer(alloc, &ops, text.as_str())?.len(), 512);
-    let text = items(alloc, "f(", 255, ").")?;
-    assert_eq!(rt;
-        answer(alloc, &ops, text.as_str())?.as_slice(),
-        b"arity too large".as_slice()
-    );
     Ok(())
 }
 
@@ -175,35 +134,48 @@ fn name_of(alloc: Global, text: &str) -> Result<Name, Fail> {
     Ok(Name::new(Vec::from_slice(alloc, text.as_bytes())?))
 }
 
+/// Operators that are added one after the other, why one isn't, and how a text is read behind each.
+const OPERATORS: [(u32, OpKind, &str, &str, &str, &str); 5] = [
+    (
+        1300,
+        OpKind::Xfx,
+        "+",
+        "Err(BadPriority)",
+        "a + b.",
+        "+(a,b)",
+    ),
+    (700, OpKind::Xfx, ",", "Err(BadName)", "a + b.", "+(a,b)"),
+    (
+        700,
+        OpKind::Xf,
+        "+",
+        "Err(InfixAndPostfix)",
+        "a + b.",
+        "+(a,b)",
+    ),
+    (
+        100,
+        OpKind::Yf,
+        "!",
+        "Ok(())",
+        "- a ! ! + b.",
+        "+(-(!(!(a))),b)",
+    ),
+    (0, OpKind::Xfx, "+", "Ok(())", "a + b.", "syntax"),
+];
+
 #[test]
 fn operators(rt: HostRuntime) -> Result<(), Fail> {
     let alloc = rt.alloc();
     let mut ops = OpTable::standard(alloc)?;
-    let plus = name_of(alloc, "+")?;
-    let comma = name_of(alloc, ",")?;
-    let bang = name_of(alloc, "!")?;
-    assert_eq!(rt;
-        ops.add(alloc, 1300, OpKind::Xfx, &plus),
-        Err(OpFail::BadPriority)
-    );
-    assert_eq!(rt;
-        ops.add(alloc, 700, OpKind::Xfx, &comma),
-        Err(OpFail::BadName)
-    );
-    assert_eq!(rt;
-        ops.add(alloc, 700, OpKind::Xf, &plus),
-        Err(OpFail::InfixAndPostfix)
-    );
-    assert_eq!(rt; ops.add(alloc, 100, OpKind::Yf, &bang), Ok(()));
-    assert_eq!(rt;
-        answer(alloc, &ops, "- a ! ! + b.")?.as_slice(),
-        b"+(-(!(!(a))),b)".as_slice()
-    );
-    assert_eq!(rt; ops.add(alloc, 0, OpKind::Xfx, &plus), Ok(()));
-    assert_eq!(rt;
-        answer(alloc, &ops, "a + b.")?.as_slice(),
-        b"syntax".as_slice()
-    );
+    for (priority, kind, name, told, text, read) in &OPERATORS {
+        let name = name_of(alloc, name)?;
+        let added = ops.add(alloc, *priority, *kind, &name);
+        let added = format!(in alloc; "{added:?}")?;
+        let found = answer(alloc, &ops, text)?;
+        let is_so = added.as_str() == *told && found.as_slice() == read.as_bytes();
+        assert!(rt; is_so, "{priority} {text}");
+    }
     Ok(())
 }
 

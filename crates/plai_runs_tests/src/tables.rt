@@ -2,12 +2,12 @@
 ghost use Rattle.std.specs.Prelude.{◌≡◌, ◌<◌, ◌≤◌, All, IfOk, length};
 
 use crate::programs::BETWEEN;
+use plai_analysis::analyse;
 use plai_base::Steps;
 use plai_clauses::Program;
 use plai_domain::{Domain, Tally};
 use plai_modules::{NamedText, Text, load};
 use plai_render::TextRow;
-use plai_rounds::analyse;
 use plai_terms::Listed;
 use std::alloc::Global;
 use std::marker::Brand;
@@ -58,8 +58,8 @@ fn counted<D: Domain, L: Ledger>(
     requires some { 0 < blank.parts }
 {
     let mut steps = Steps::<L>::new(blank);
-    let table = analyse(alloc, domain, program, 1000, &mut Tally::new(), &mut steps)?;
-    Ok(table.rows.into_vec())
+    let found = analyse(alloc, domain, program, 1000, &mut Tally::new(), &mut steps)?;
+    Ok(found.texts.rows.into_vec())
 }
 
 /// The rows of the program's table, as they are printed.

@@ -1,258 +1,156 @@
-ghost use Rattle.std.specs.Prelude.{◌≡◌, true, IfOk};
-ghost use Rattle.plai_terms.specs.Readable.{is_wide};
-
-use plai_clauses::{Clause, Imports, Module, Program};
+// Steps of runs by choices, and what they answer.
+use plai_clauses::Program;
+use plai_modules::{NamedText, Text, load};
 use plai_sld::{Run, Stepped, laws_of_runs};
-use plai_terms::{Args, Listed, Name, PredKey, ReadTerm, Term};
+use plai_terms::{Args, Listed, Name, PredKey, Term};
 use std::alloc::{AllocError, Global};
-use std::process::Abort;
 use std::slice;
 use std::test::Fail;
+
+/// The clauses have these numbers within their predicates: for `q/1`, 1 calls `p/1` and 2 is the fact.
+const PROGRAM: &[u8] = b":- module(m, []).
+p(X) :- q(X). q(X) :- p(X). q(a). r(X) :- X is 1.
+count(X) :- X > 0, Y is X - 1, count(Y). count(0).";
+
+fn program(alloc: Global) -> Result<Program, Fail> {
+    let file = NamedText {
+        name: Text::new(String::from_str(alloc, "m.pl")?),
+        text: Listed::new(Vec::from_slice(alloc, PROGRAM)?),
+    };
+    if file.text.as_slice().len() > 1_000 {
+        return Err(Fail::new("a long program"));
+    }
+    Ok(load(alloc, slice::from_ref(&file))?)
+}
 
 fn name(alloc: Global, text: &str) -> Result<Name, AllocError> {
     Ok(Name::new(Vec::from_slice(alloc, text.as_bytes())?))
 }
 
-fn atom(alloc: Global, text: &str) -> Result<Term, AllocError> {
-    Ok(Term::Atom(name(alloc, text)?))
+/// The argument of a goal.
+enum Argument {
+    Var(u32),
+    Int(i128),
+    /// A variable under so many functors.
+    Deep(u32),
 }
 
-fn unary(alloc: Global, text: &str, argument: Term) -> Result<Term, AllocError> {
-    Ok(Term::Compound(name(alloc, text)?, Args::new(vec![in alloc; argument]?)))
-}
-
-fn pair(alloc: Global, text: &str, left: Term, right: Term) -> Result<Term, AllocError> {
-    Ok(Term::Compound(name(alloc, text)?, Args::new(vec![in alloc; left, right]?)))
-}
-
-fn is_wide(term: &Term) -> bool
-    ensures { result ≡ is_wide term.now }
-{
-    match term {
-        Term::Var(_) | Term::Int(_) | Term::Atom(_) => false,
-        Term::Compound(_, args) => {
-            if args.as_slice().len() > 255 {
-                return true;
-            }
-            for arg in args.as_slice() {
-                if is_wide(arg) {
-                    return true;
-                }
-            }
-            false
-        }
+fn term(alloc: Global, argument: &Argument) -> Result<Term, AllocError> {
+    let count = match argument {
+        Argument::Var(variable) => return Ok(Term::Var(*variable)),
+        Argument::Int(value) => return Ok(Term::Int(*value)),
+        Argument::Deep(count) => *count,
+    };
+    let mut term = Term::Var(7);
+    for _ in 0..count {
+        term = Term::Compound(name(alloc, "f")?, Args::new(vec![in alloc; term]?));
     }
+    Ok(term)
 }
 
-// Adds the clause that a term of at most two variables says to the module m, which is there.
-fn add<R: AllocGlobal + Abort>(rt: &R, program: &mut Program, term: Term) -> Result<(), Fail> {
-    let alloc = rt.alloc();
-    let home = name(alloc, "m")?;
-    let read = ReadTerm { term, variables: 2 };
-    assert!(rt; read.term.has_variables_below(alloc, 2)? && !is_wide(&read.term));
-    assert!(rt; program.module(&home).is_some());
-    match Clause::from_term(alloc, &home, &Imports::new(Vec::new(alloc)), &read) {
-        Ok(clause) => program.add_clause(alloc, &home, clause)?,
-        Err(_) => assert!(rt; false),
-    }
-    Ok(())
-}
-
-// The module m, without clauses.
-fn module<R: AllocGlobal + Abort>(rt: &R) -> Result<Program, Fail> {
-    let alloc = rt.alloc();
-    let mut program = Program::new(alloc);
-    program.add_module(
-        alloc,
-        Module {
-            name: name(alloc, "m")?,
-            exports: Listed::new(Vec::new(alloc)),
-            imports: Imports::new(Vec::new(alloc)),
-        },
-    )?;
-    Ok(program)
-}
-
-// `p(X) :- q(X). q(X) :- p(X). q(a). r(X) :- X is 1.`
-fn program<R: AllocGlobal + Abort>(rt: &R) -> Result<Program, Fail> {
-    let alloc = rt.alloc();
-    let mut program = module(rt)?;
-    for (head, body) in [("p", "q"), ("q", "p")] {
-        let head = unary(alloc, head, Term::Var(0))?;
-        let body = unary(alloc, body, Term::Var(0))?;
-        add(rt, &mut program, pair(alloc, ":-", head, body)?)?;
-    }
-    add(rt, &mut program, unary(alloc, "q", atom(alloc, "a")?)?)?;
-    let head = unary(alloc, "r", Term::Var(0))?;
-    let body = pair(alloc, "is", Term::Var(0), Term::Int(1))?;
-    add(rt, &mut program, pair(alloc, ":-", head, body)?)?;
-    Ok(program)
-}
-
-// `count(X) :- X > 0, Y is X - 1, count(Y). count(0).`
-fn counting<R: AllocGlobal + Abort>(rt: &R) -> Result<Program, Fail> {
-    let alloc = rt.alloc();
-    let mut program = module(rt)?;
-    let less = pair(alloc, "-", Term::Var(0), Term::Int(1))?;
-    let next = pair(alloc, "is", Term::Var(1), less)?;
-    let again = unary(alloc, "count", Term::Var(1))?;
-    let more = pair(alloc, ">", Term::Var(0), Term::Int(0))?;
-    let body = pair(alloc, ",", more, pair(alloc, ",", next, again)?)?;
-    let head = unary(alloc, "count", Term::Var(0))?;
-    add(rt, &mut program, pair(alloc, ":-", head, body)?)?;
-    add(rt, &mut program, unary(alloc, "count", Term::Int(0))?)?;
-    Ok(program)
-}
-
-// The goal of a predicate of the module m with one argument.
-fn start<R: AllocGlobal + Abort>(
-    rt: &R,
+/// The run from the goal of a predicate of the module m with one argument.
+fn start(
+    alloc: Global,
     program: &Program,
-    text: &str,
-    argument: Term,
+    predicate: &str,
+    argument: &Argument,
 ) -> Result<Run, Fail> {
-    let alloc = rt.alloc();
     let pred = PredKey {
         module: name(alloc, "m")?,
-        name: name(alloc, text)?,
+        name: name(alloc, predicate)?,
         arity: 1,
     };
+    let argument = term(alloc, argument)?;
     if !argument.has_variables_below(alloc, 2_147_483_647)? {
-        return Err(Fail::from("greater variables"));
+        return Err(Fail::new("greater variables"));
     }
     Ok(Run::start(alloc, program, &pred, slice::from_ref(&argument))?)
 }
 
-// What the steps with these choices answer.
-fn check_steps<R: AllocGlobal + Abort>(
-    rt: &R,
-    program: &Program,
-    mut run: Run,
-    steps: &[(u64, Stepped)],
-) -> Result<(), Fail> {
-    for step in steps {
-        assert_eq!(rt; run.step(rt.alloc(), program, step.0)?, step.1);
+fn letter(stepped: Stepped) -> u8 {
+    match stepped {
+        Stepped::Moved => b'm',
+        Stepped::NoClause => b'n',
+        Stepped::Clash => b'c',
+        Stepped::Spent => b's',
+        Stepped::Done => b'd',
     }
-    Ok(())
 }
+
+/// What the steps with these choices answer, each as a letter.
+fn stepped(
+    alloc: Global,
+    program: &Program,
+    run: &mut Run,
+    choices: &[u8],
+) -> Result<Vec<u8>, AllocError> {
+    let mut letters = Vec::new(alloc);
+    for choice in choices {
+        let choice = u64::from(choice.saturating_sub(b'0'));
+        letters.push(letter(run.step(alloc, program, choice)?))?;
+    }
+    Ok(letters)
+}
+
+/// Goals, choices of steps, and what these answer.
+const RUNS: [(&str, Argument, &[u8], &[u8]); 7] = [
+    ("p", Argument::Var(0), b"120001", b"mmmmdd"),
+    ("p", Argument::Var(0), b"1302", b"mnnm"),
+    ("q", Argument::Int(3), b"2112", b"cmmc"),
+    ("r", Argument::Var(0), b"1999", b"mmmd"),
+    ("r", Argument::Int(2), b"111", b"mcc"),
+    // the numbers of variables are spent
+    ("p", Argument::Var(2_147_483_646), b"119", b"mss"),
+    ("p", Argument::Deep(20_000), b"121", b"mcm"),
+];
 
 #[test]
 fn runs_move_and_end(rt: HostRuntime) -> Result<(), Fail> {
     laws_of_runs();
-    let program = program(&rt)?;
-    check_steps(
-        &rt,
-        &program,
-        start(&rt, &program, "p", Term::Var(0))?,
-        &[
-            (1, Stepped::Moved),
-            (2, Stepped::Moved),
-            (0, Stepped::Moved),
-            (0, Stepped::Moved),
-            (0, Stepped::Done),
-            (1, Stepped::Done),
-        ],
-    )?;
-    check_steps(
-        &rt,
-        &program,
-        start(&rt, &program, "p", Term::Var(0))?,
-        &[
-            (1, Stepped::Moved),
-            (3, Stepped::NoClause),
-            (0, Stepped::NoClause),
-            (2, Stepped::Moved),
-        ],
-    )
-}
-
-#[test]
-fn goals_clash(rt: HostRuntime) -> Result<(), Fail> {
-    let program = program(&rt)?;
-    check_steps(
-        &rt,
-        &program,
-        start(&rt, &program, "q", Term::Int(3))?,
-        &[
-            (2, Stepped::Clash),
-            (1, Stepped::Moved),
-            (1, Stepped::Moved),
-            (2, Stepped::Clash),
-        ],
-    )?;
-    check_steps(
-        &rt,
-        &program,
-        start(&rt, &program, "r", Term::Var(0))?,
-        &[
-            (1, Stepped::Moved),
-            (9, Stepped::Moved),
-            (9, Stepped::Moved),
-            (9, Stepped::Done),
-        ],
-    )?;
-    check_steps(
-        &rt,
-        &program,
-        start(&rt, &program, "r", Term::Int(2))?,
-        &[
-            (1, Stepped::Moved),
-            (1, Stepped::Clash),
-            (1, Stepped::Clash),
-        ],
-    )
-}
-
-#[test]
-fn numbers_are_spent(rt: HostRuntime) -> Result<(), Fail> {
-    let program = program(&rt)?;
-    check_steps(
-        &rt,
-        &program,
-        start(&rt, &program, "p", Term::Var(2_147_483_646))?,
-        &[
-            (1, Stepped::Moved),
-            (1, Stepped::Spent),
-            (9, Stepped::Spent),
-        ],
-    )
-}
-
-#[test]
-fn arguments_are_of_any_depth(rt: HostRuntime) -> Result<(), Fail> {
-    let alloc = rt.alloc();
-    let program = program(&rt)?;
-    let mut argument = Term::Var(7);
-    for _ in 0..20_000 {
-        argument = unary(alloc, "f", argument)?;
+    let program = program(rt.alloc())?;
+    for (predicate, argument, choices, wanted) in &RUNS {
+        let mut run = start(rt.alloc(), &program, predicate, argument)?;
+        let found = stepped(rt.alloc(), &program, &mut run, choices)?;
+        assert!(rt; found.as_slice() == *wanted, "{predicate} {choices:?}");
     }
-    check_steps(
-        &rt,
-        &program,
-        start(&rt, &program, "p", argument)?,
-        &[
-            (1, Stepped::Moved),
-            (2, Stepped::Clash),
-            (1, Stepped::Moved),
-        ],
-    )
+    Ok(())
 }
 
 // How far the loop of the test below counts. Each number takes four steps; with 250,000 it makes a million in some seconds.
 const COUNTED: u32 = 2_500;
 
+/// Three for each number and one for zero, one for each mark, and one more.
+fn counted(
+    alloc: Global,
+    three: &[u8],
+    zero: u8,
+    mark: u8,
+    more: u8,
+) -> Result<Vec<u8>, AllocError> {
+    let mut bytes = Vec::new(alloc);
+    for _ in 0..COUNTED {
+        bytes.extend_from_slice(three)?;
+    }
+    bytes.push(zero)?;
+    for _ in 0..=COUNTED {
+        bytes.push(mark)?;
+    }
+    bytes.push(more)?;
+    Ok(bytes)
+}
+
 #[test]
 fn a_counting_loop_takes_time_by_its_steps(rt: HostRuntime) -> Result<(), Fail> {
-    let alloc = rt.alloc();
-    let program = counting(&rt)?;
-    let mut run = start(&rt, &program, "count", Term::Int(COUNTED as i128))?;
-    for _ in 0..3 * COUNTED {
-        assert_eq!(&rt; run.step(alloc, &program, 1)?, Stepped::Moved);
-    }
-    assert_eq!(&rt; run.step(alloc, &program, 2)?, Stepped::Moved);
-    for _ in 0..COUNTED + 1 {
-        assert_eq!(&rt; run.step(alloc, &program, 0)?, Stepped::Moved);
-    }
-    assert_eq!(&rt; run.step(alloc, &program, 0)?, Stepped::Done);
+    let program = program(rt.alloc())?;
+    let mut run = start(
+        rt.alloc(),
+        &program,
+        "count",
+        &Argument::Int(COUNTED as i128),
+    )?;
+    let choices = counted(rt.alloc(), b"111", b'2', b'0', b'0')?;
+    let found = stepped(rt.alloc(), &program, &mut run, choices.as_slice())?;
+    let wanted = counted(rt.alloc(), b"mmm", b'm', b'm', b'd')?;
+    assert!(rt; found.as_slice() == wanted.as_slice());
     Ok(())
 }

@@ -1,4 +1,5 @@
-ghost use Rattle.std.specs.Prelude.{◌≤◌};
+// Names, terms and patterns: their texts, their copies and their order.
+ghost use Rattle.std.specs.Prelude.{◌≤◌, IfOk};
 ghost use Rattle.plai_terms.specs.Pattern.{arity_of};
 
 use plai_base::Mask;
@@ -14,98 +15,125 @@ pub(crate) fn name(alloc: Global, text: &[u8]) -> Result<Name, AllocError> {
     Ok(Name::new(Vec::from_slice(alloc, text)?))
 }
 
-pub(crate) fn atom(alloc: Global, text: &[u8]) -> Result<Term, AllocError> {
-    Ok(Term::Atom(name(alloc, text)?))
+/// As what a name prints.
+enum As {
+    Atom,
+    RowName,
+    Quoted,
 }
 
-// f('X', 'it''s'(_3,-7))
+const NAMES: [(As, &[u8], &[u8]); 29] = [
+    (As::Atom, b"abC_1", b"abC_1"),
+    (As::Atom, b":-", b":-"),
+    (As::Atom, b"[]", b"[]"),
+    (As::Atom, b"!", b"!"),
+    (As::Atom, b";", b";"),
+    (As::Atom, b".", b"'.'"),
+    (As::Atom, b"..", b".."),
+    (As::Atom, b"/*", b"'/*'"),
+    (As::Atom, b"*/", b"*/"),
+    (As::Atom, b"/", b"/"),
+    (As::Atom, b"", b"''"),
+    (As::Atom, b"Ab", b"'Ab'"),
+    (As::Atom, b"_a", b"'_a'"),
+    (As::Atom, b"1", b"'1'"),
+    (As::Atom, b"a b", b"'a b'"),
+    (As::Atom, b"it's", b"'it''s'"),
+    (As::Atom, b"a\\", b"'a\\\\'"),
+    (As::Atom, b"a\nb", b"'a\\nb'"),
+    (
+        As::Atom,
+        b"\t\x00\x1f\x7f",
+        b"'\\x09\\\\x00\\\\x1f\\\\x7f\\'",
+    ),
+    (As::Atom, b"\xc3\xa4", b"'\xc3\xa4'"),
+    (As::Atom, b",", b"','"),
+    (As::Atom, b"|", b"'|'"),
+    (As::Atom, b"{}", b"'{}'"),
+    (As::RowName, b"app", b"app"),
+    (As::RowName, b":", b"':'"),
+    (As::RowName, b"/*", b"'/*'"),
+    (As::RowName, b"[]", b"[]"),
+    (As::RowName, b"a b", b"'a b'"),
+    (As::Quoted, b"a.pl", b"'a.pl'"),
+];
+
+fn name_text(alloc: Global, way: &As, text: &[u8]) -> Result<Vec<u8>, AllocError> {
+    let name = name(alloc, text)?;
+    let mut out = Vec::new(alloc);
+    match way {
+        As::Atom => print_atom(alloc, &name, &mut out)?,
+        As::RowName => print_name(alloc, &name, &mut out)?,
+        As::Quoted => print_quoted(alloc, &name, &mut out)?,
+    }
+    Ok(out)
+}
+
+#[test]
+fn names_print_bare_or_quoted(rt: HostRuntime) -> Result<(), Fail> {
+    for (way, text, wanted) in &NAMES {
+        let found = name_text(rt.alloc(), way, text)?;
+        assert!(rt; found.as_slice() == *wanted, "{text:?}");
+    }
+    Ok(())
+}
+
+// f('X','it''s'(_3,-7))
 fn sample(alloc: Global) -> Result<Term, AllocError> {
     let inner = Args::new(vec![in alloc; Term::Var(3), Term::Int(-7)]?);
     let quoted = Term::Compound(name(alloc, b"it's")?, inner);
-    let items = vec![in alloc; atom(alloc, b"X")?, quoted]?;
+    let items = vec![in alloc; Term::Atom(name(alloc, b"X")?), quoted]?;
     Ok(Term::Compound(name(alloc, b"f")?, Args::new(items)))
 }
 
-#[test]
-fn atoms_print_bare_or_quoted(rt: HostRuntime) -> Result<(), Fail> {
-    let alloc = rt.alloc();
-    for (text, printed) in [
-        (b"abC_1".as_slice(), b"abC_1".as_slice()),
-        (b":-", b":-"),
-        (b"[]", b"[]"),
-        (b"!", b"!"),
-        (b";", b";"),
-        (b".", b"'.'"),
-        (b"..", b".."),
-        (b"/*", b"'/*'"),
-        (b"*/", b"*/"),
-        (b"/", b"/"),
-        (b"", b"''"),
-        (b"Ab", b"'Ab'"),
-        (b"_a", b"'_a'"),
-        (b"1", b"'1'"),
-        (b"a b", b"'a b'"),
-        (b"it's", b"'it''s'"),
-        (b"a\\", b"'a\\\\'"),
-        (b"a\nb", b"'a\\nb'"),
-        (b"\t\x00\x1f\x7f", b"'\\x09\\\\x00\\\\x1f\\\\x7f\\'"),
-        (b"\xc3\xa4", b"'\xc3\xa4'"),
-        (b",", b"','"),
-        (b"|", b"'|'"),
-        (b"{}", b"'{}'"),
-    ] {
-        let mut out = Vec::new(alloc);
-        print_atom(alloc, &name(alloc, text)?, &mut out)?;
-        assert_eq!(rt; out.as_slice(), printed);
+fn is_copied(alloc: Global, term: &Term) -> Result<bool, AllocError> {
+    if let Term::Compound(_, args) = term {
+        if args.copy(alloc)? != *args {
+            return Ok(false);
+        }
     }
-    Ok(())
+    Ok(term.copy(alloc)? == *term)
 }
 
-#[test]
-fn names_of_rows_quote_symbols(rt: HostRuntime) -> Result<(), Fail> {
-    let alloc = rt.alloc();
-    for (text, printed) in [
-        (b"app".as_slice(), b"app".as_slice()),
-        (b":", b"':'"),
-        (b"/*", b"'/*'"),
-        (b"[]", b"[]"),
-        (b"a b", b"'a b'"),
-    ] {
-        let mut out = Vec::new(alloc);
-        print_name(alloc, &name(alloc, text)?, &mut out)?;
-        assert_eq!(rt; out.as_slice(), printed);
+/// The text of the term behind what stands there, where all its variables are below the first number and not the second.
+fn term_text(alloc: Global, term: &Term, below: u32, not: u32) -> Result<Vec<u8>, AllocError> {
+    let mut out = Vec::from_slice(alloc, b"> ")?;
+    if term.has_variables_below(alloc, below)? && !term.has_variables_below(alloc, not)? {
+        print_term(alloc, term, &mut out)?;
     }
-    let mut out = Vec::new(alloc);
-    print_quoted(alloc, &name(alloc, b"a.pl")?, &mut out)?;
-    assert_eq!(rt; out.as_slice(), b"'a.pl'".as_slice());
-    Ok(())
+    Ok(out)
 }
 
 #[test]
 fn terms_print_and_copy(rt: HostRuntime) -> Result<(), Fail> {
-    let alloc = rt.alloc();
-    let term = sample(alloc)?;
-    let mut out = Vec::from_slice(alloc, b"> ")?;
-    print_term(alloc, &term, &mut out)?;
-    assert_eq!(rt; out.as_slice(), b"> f('X','it''s'(_3,-7))".as_slice());
-    assert_eq!(rt; term.copy(alloc)?, sample(alloc)?);
-    assert!(rt; term.has_variables_below(alloc, 4)? && !term.has_variables_below(alloc, 3)?);
+    let term = sample(rt.alloc())?;
+    let is_copied = is_copied(rt.alloc(), &term)?;
+    let text = term_text(rt.alloc(), &term, 4, 3)?;
+    assert!(rt; is_copied && text.as_slice() == b"> f('X','it''s'(_3,-7))".as_slice());
     Ok(())
+}
+
+/// How many pairs are left where these variables are kept.
+fn kept(alloc: Global, subst: &Subst, variables: &[u32]) -> Result<usize, AllocError> {
+    Ok(subst.restrict(alloc, variables)?.as_slice().len())
+}
+
+fn applied(alloc: Global, subst: &Subst) -> Result<Vec<u8>, AllocError> {
+    let term = subst.apply(alloc, &sample(alloc)?)?;
+    let mut out = Vec::new(alloc);
+    print_term(alloc, &term, &mut out)?;
+    Ok(out)
 }
 
 #[test]
 fn substitutions_replace_variables(rt: HostRuntime) -> Result<(), Fail> {
-    let alloc = rt.alloc();
-    let subst = Subst::single(alloc, 3, atom(alloc, b"a")?)?;
-    assert_eq!(rt; subst.as_slice().len(), 1);
-    let mut out = Vec::new(alloc);
-    print_term(alloc, &subst.apply(alloc, &sample(alloc)?)?, &mut out)?;
-    assert_eq!(rt; out.as_slice(), b"f('X','it''s'(a,-7))".as_slice());
-    assert_eq!(rt;
-        subst.restrict(alloc, &[2, 3])?.as_slice(),
-        subst.as_slice()
+    let subst = Subst::single(rt.alloc(), 3, Term::Atom(name(rt.alloc(), b"a")?))?;
+    let kept = (
+        kept(rt.alloc(), &subst, &[2, 3])?,
+        kept(rt.alloc(), &subst, &[2])?,
     );
-    assert_eq!(rt; subst.restrict(alloc, &[2])?.as_slice().len(), 0);
+    let text = applied(rt.alloc(), &subst)?;
+    assert!(rt; kept == (1, 0) && text.as_slice() == b"f('X','it''s'(a,-7))".as_slice());
     Ok(())
 }
 
@@ -117,56 +145,60 @@ fn masks(alloc: Global, bits: &[u64]) -> Result<Listed<Mask>, AllocError> {
     Ok(Listed::new(masks))
 }
 
+/// What a pattern is of: assignments of so many slots, or groups of ten and free slots.
+enum Of {
+    Assignments(u32),
+    Groups(u64),
+}
+
+const PATTERNS: [(Of, &[u64], &[u8]); 17] = [
+    (Of::Assignments(0), &[0], b"t"),
+    (Of::Assignments(0), &[], b"f"),
+    (Of::Assignments(1), &[0, 1], b"t"),
+    (Of::Assignments(1), &[1], b"(1 t f)"),
+    (Of::Assignments(1), &[0], b"(1 f t)"),
+    (Of::Assignments(2), &[3], b"(1 (2 t f) f)"),
+    (Of::Assignments(2), &[2, 3], b"(2 t f)"),
+    (Of::Assignments(3), &[3, 7], b"(1 (2 t f) f)"),
+    (Of::Assignments(3), &[7], b"(1 (2 (3 t f) f) f)"),
+    (
+        Of::Assignments(3),
+        &[0, 6, 7],
+        b"(1 (2 (3 t f) f) (2 (3 t f) (3 f t)))",
+    ),
+    (Of::Assignments(2), &[0, 3], b"(1 (2 t f) (2 f t))"),
+    (Of::Groups(3), &[1, 2], b"sh={1,2} fr={1,2}"),
+    (Of::Groups(3), &[3], b"sh={1.2} fr={1,2}"),
+    (Of::Groups(0), &[3, 5, 7], b"sh={1.2,1.2.3,1.3} fr={}"),
+    (Of::Groups(0), &[3, 5], b"sh={1.2,1.3} fr={}"),
+    (Of::Groups(0), &[], b"sh={} fr={}"),
+    (Of::Groups(512), &[1, 2, 3, 512], b"sh={1,1.2,2,10} fr={10}"),
+];
+
+fn pattern(alloc: Global, of: &Of, bits: &[u64]) -> Result<Abs, AllocError>
+    ensures { IfOk result (λ abs. arity_of abs ≤ 16) }
+{
+    match of {
+        Of::Assignments(arity) if *arity <= 16 => Ok(Abs::Pos(*arity, masks(alloc, bits)?)),
+        Of::Assignments(_) => Ok(Abs::Nothing),
+        Of::Groups(free) => Ok(Abs::Groups(10, masks(alloc, bits)?, Mask::from_bits(*free))),
+    }
+}
+
+/// The text of a copy of the pattern.
 fn pattern_text(alloc: Global, abs: &Abs) -> Result<Vec<u8>, AllocError>
     requires { arity_of abs.now ≤ 16 }
 {
     let mut out = Vec::new(alloc);
-    print_abs(alloc, abs, &mut out)?;
+    print_abs(alloc, &abs.copy(alloc)?, &mut out)?;
     Ok(out)
 }
 
 #[test]
-fn sets_of_assignments_print(rt: HostRuntime) -> Result<(), Fail> {
-    let alloc = rt.alloc();
-    for (arity, bits, printed) in [
-        (0, [0].as_slice(), b"t".as_slice()),
-        (0, &[], b"f"),
-        (1, &[0, 1], b"t"),
-        (1, &[1], b"(1 t f)"),
-        (1, &[0], b"(1 f t)"),
-        (2, &[3], b"(1 (2 t f) f)"),
-        (2, &[2, 3], b"(2 t f)"),
-        (3, &[3, 7], b"(1 (2 t f) f)"),
-        (3, &[7], b"(1 (2 (3 t f) f) f)"),
-        (3, &[0, 6, 7], b"(1 (2 (3 t f) f) (2 (3 t f) (3 f t)))"),
-        (2, &[0, 3], b"(1 (2 t f) (2 f t))"),
-    ] {
-        assert!(rt; arity <= 16);
-        let abs = Abs::Pos(arity, masks(alloc, bits)?);
-        assert_eq!(rt; pattern_text(alloc, &abs)?.as_slice(), printed);
-        assert_eq!(rt; abs.copy(alloc)?, abs);
-    }
-    assert_eq!(rt;
-        pattern_text(alloc, &Abs::Nothing)?.as_slice(),
-        b"none".as_slice()
-    );
-    Ok(())
-}
-
-#[test]
-fn groups_print_in_the_order_of_their_slots(rt: HostRuntime) -> Result<(), Fail> {
-    let alloc = rt.alloc();
-    for (groups, free, printed) in [
-        ([1, 2].as_slice(), 3, b"sh={1,2} fr={1,2}".as_slice()),
-        (&[3], 3, b"sh={1.2} fr={1,2}"),
-        (&[3, 5, 7], 0, b"sh={1.2,1.2.3,1.3} fr={}"),
-        (&[3, 5], 0, b"sh={1.2,1.3} fr={}"),
-        (&[], 0, b"sh={} fr={}"),
-        (&[1, 2, 3, 512], 512, b"sh={1,1.2,2,10} fr={10}"),
-    ] {
-        let abs = Abs::Groups(10, masks(alloc, groups)?, Mask::from_bits(free));
-        assert_eq!(rt; pattern_text(alloc, &abs)?.as_slice(), printed);
-        assert_eq!(rt; abs.copy(alloc)?, abs);
+fn patterns_print(rt: HostRuntime) -> Result<(), Fail> {
+    for (of, bits, wanted) in &PATTERNS {
+        let found = pattern_text(rt.alloc(), &pattern(rt.alloc(), of, bits)?)?;
+        assert!(rt; found.as_slice() == *wanted, "{bits:?}");
     }
     Ok(())
 }
@@ -176,22 +208,27 @@ fn cut(alloc: Global, functor: &[u8]) -> Result<Skeleton, AllocError> {
     Ok(Skeleton::Compound(name(alloc, functor)?, Listed::new(args)))
 }
 
-#[test]
-fn terms_cut_at_a_depth_print(rt: HostRuntime) -> Result<(), Fail> {
-    let alloc = rt.alloc();
+fn skeletons(alloc: Global) -> Result<Vec<Skeleton>, AllocError> {
     let any = Skeleton::Atom(name(alloc, b"any")?);
     let other = Skeleton::Atom(name(alloc, b"a")?);
-    let items = vec![in alloc; cut(alloc, b"any")?, any, other, Skeleton::Int(-3)]?;
-    let abs = Abs::Terms(Listed::new(items));
-    if let Abs::Terms(skeletons) = &abs {
-        assert!(rt; skeletons.as_slice().len() <= 16);
+    Ok(vec![in alloc; cut(alloc, b"any")?, any, other, Skeleton::Int(-3)]?)
+}
+
+fn cut_text(alloc: Global, skeletons: Vec<Skeleton>) -> Result<Vec<u8>, AllocError> {
+    if skeletons.len() > 16 {
+        return Ok(Vec::new(alloc));
     }
-    let mut out = Vec::new(alloc);
-    print_abs(alloc, &abs, &mut out)?;
-    assert_eq!(rt; out.as_slice(), b"(any(any,int),'any',a,-3)".as_slice());
-    assert_eq!(rt; abs.copy(alloc)?, abs);
-    let none = Abs::Terms(Listed::new(Vec::new(alloc)));
-    assert_eq!(rt; pattern_text(alloc, &none)?.as_slice(), b"()".as_slice());
+    pattern_text(alloc, &Abs::Terms(Listed::new(skeletons)))
+}
+
+#[test]
+fn terms_cut_at_a_depth_print(rt: HostRuntime) -> Result<(), Fail> {
+    let found = cut_text(rt.alloc(), skeletons(rt.alloc())?)?;
+    assert!(rt; found.as_slice() == b"(any(any,int),'any',a,-3)".as_slice());
+    let found = cut_text(rt.alloc(), Vec::new(rt.alloc()))?;
+    assert!(rt; found.as_slice() == b"()".as_slice());
+    let found = pattern_text(rt.alloc(), &Abs::Nothing)?;
+    assert!(rt; found.as_slice() == b"none".as_slice());
     Ok(())
 }
 
@@ -203,42 +240,59 @@ fn key(alloc: Global, predicate: &[u8], arity: u32) -> Result<PredKey, AllocErro
     })
 }
 
+/// The row of `p/1` at a term cut at a depth.
+fn row(alloc: Global) -> Result<RowName, AllocError> {
+    Ok(RowName {
+        pred: key(alloc, b"p", 1)?,
+        call: Abs::Terms(Listed::new(vec![in alloc; cut(alloc, b"g")?]?)),
+    })
+}
+
+fn are_copied(alloc: Global, row: &RowName) -> Result<bool, AllocError> {
+    if row.copy(alloc)? != *row || row.call.copy(alloc)? != row.call {
+        return Ok(false);
+    }
+    Ok(row.pred.copy(alloc)? == row.pred && row.pred.name.copy(alloc)? == row.pred.name)
+}
+
+fn others_are_copied(alloc: Global, read: &ReadTerm) -> Result<bool, AllocError> {
+    let skeleton = cut(alloc, b"g")?;
+    Ok(read.copy(alloc)? == *read && skeleton.copy(alloc)? == skeleton)
+}
+
 #[test]
 fn copies_are_equal(rt: HostRuntime) -> Result<(), Fail> {
-    let alloc = rt.alloc();
-    let term = sample(alloc)?;
-    assert_eq!(rt; term.copy(alloc)?, sample(alloc)?);
-    if let Term::Compound(_, args) = &term {
-        assert_eq!(rt; &args.copy(alloc)?, args);
-    }
-    let read = ReadTerm { term, variables: 4 };
-    assert_eq!(rt; read.copy(alloc)?, read);
-    let pred = key(alloc, b"p", 1)?;
-    assert_eq!(rt; pred.name.copy(alloc)?, pred.name);
-    assert_eq!(rt; pred.copy(alloc)?, pred);
-    let skeleton = cut(alloc, b"g")?;
-    assert_eq!(rt; skeleton.copy(alloc)?, skeleton);
-    let call = Abs::Terms(Listed::new(vec![in alloc; skeleton]?));
-    assert_eq!(rt; call.copy(alloc)?, call);
-    let row = RowName { pred, call };
-    assert_eq!(rt; row.copy(alloc)?, row);
+    let are_copied = are_copied(rt.alloc(), &row(rt.alloc())?)?;
+    let term = sample(rt.alloc())?;
+    let others = others_are_copied(rt.alloc(), &ReadTerm { term, variables: 4 })?;
+    assert!(rt; are_copied && others);
     Ok(())
+}
+
+/// Whether the key of `p/2` is less than another.
+fn is_less(alloc: Global, predicate: &[u8], arity: u32) -> Result<bool, AllocError> {
+    Ok(key(alloc, b"p", 2)? < key(alloc, predicate, arity)?)
+}
+
+/// How many items are given back of a name, of a list and of arguments.
+fn lengths(alloc: Global) -> Result<(usize, usize, usize), AllocError> {
+    let bytes = name(alloc, b"abc")?.into_vec().len();
+    let masks = masks(alloc, &[5])?.into_vec().len();
+    let args = NonEmpty::new(vec![in alloc; 7, 8]?);
+    Ok((bytes, masks, args.into_vec().len()))
 }
 
 #[test]
 fn names_compare(rt: HostRuntime) -> Result<(), Fail> {
-    let alloc = rt.alloc();
     equality_is_exact();
     rows_are_ordered();
     term_texts_differ();
     texts_differ();
-    assert!(rt; key(alloc, b"p", 2)? < key(alloc, b"pp", 1)?);
-    assert!(rt; key(alloc, b"p", 2)? > key(alloc, b"p", 1)?);
-    assert_eq!(rt; name(alloc, b"ab")?.into_vec().as_slice(), b"ab".as_slice());
-    assert_eq!(rt; masks(alloc, &[5])?.into_vec().len(), 1);
-    let args = NonEmpty::new(vec![in alloc; 7]?);
-    assert_eq!(rt; args.as_slice(), [7].as_slice());
-    assert_eq!(rt; args.into_vec().len(), 1);
-    assert_ne!(rt; Prop::Ground(1), Prop::Var(1));
+    let less = (
+        is_less(rt.alloc(), b"pp", 1)?,
+        is_less(rt.alloc(), b"p", 1)?,
+    );
+    let lengths = lengths(rt.alloc())?;
+    assert!(rt; less == (true, false) && lengths == (3, 1, 2) && Prop::Ground(1) != Prop::Var(1));
     Ok(())
 }

@@ -1,8 +1,21 @@
 // Unification of terms, also of many equations and of deep terms.
-use crate::terms::{atom, name};
+use crate::terms::name;
 use plai_terms::{Args, Outcome, Subst, Term, print_term, unifiers_are_most_general, unify};
 use std::alloc::{AllocError, Global};
 use std::test::Fail;
+
+/// Takes the last term, or an integer where there is none.
+fn last(terms: &mut Vec<Term>) -> Term {
+    match terms.pop() {
+        Some(term) => term,
+        None => Term::Int(0),
+    }
+}
+
+/// The first term, with the second in place of variable 0.
+fn replaced(alloc: Global, term: &Term, second: Term) -> Result<Term, AllocError> {
+    Subst::single(alloc, 0, second)?.apply(alloc, term)
+}
 
 // f(first,second)
 fn pair(alloc: Global, first: Term, second: Term) -> Result<Term, AllocError> {
@@ -10,94 +23,100 @@ fn pair(alloc: Global, first: Term, second: Term) -> Result<Term, AllocError> {
     Ok(Term::Compound(name(alloc, b"f")?, Args::new(items)))
 }
 
+// f(only)
+fn single(alloc: Global, only: Term) -> Result<Term, AllocError> {
+    let items = vec![in alloc; only]?;
+    Ok(Term::Compound(name(alloc, b"f")?, Args::new(items)))
+}
+
+/// What a sign makes of the last terms: `,` a compound of two, `=` the first of two with the second in place of variable 0,
+/// `^` the last one with itself there, any other a compound of one.
+fn joined(alloc: Global, sign: u8, terms: &mut Vec<Term>) -> Result<Term, AllocError> {
+    let second = last(terms);
+    match sign {
+        b',' => pair(alloc, last(terms), second),
+        b'=' => replaced(alloc, &last(terms), second),
+        b'^' => replaced(alloc, &second, second.copy(alloc)?),
+        _ => single(alloc, second),
+    }
+}
+
+/// What letters and signs make one after the other: a digit or a capital letter is a variable, a small letter an atom.
+fn term(alloc: Global, text: &str) -> Result<Term, AllocError> {
+    let mut terms = Vec::new(alloc);
+    for letter in text.as_bytes() {
+        let next = match *letter {
+            b'0'..=b'9' => Term::Var(u32::from(*letter - b'0')),
+            b'A'..=b'Z' => Term::Var(u32::from(*letter - b'A') + 10),
+            b'a'..=b'z' => Term::Atom(name(alloc, &[*letter])?),
+            sign => joined(alloc, sign, &mut terms)?,
+        };
+        terms.push(next)?;
+    }
+    Ok(last(&mut terms))
+}
+
+fn write_bindings(alloc: Global, subst: &Subst, out: &mut Vec<u8>) -> Result<(), AllocError> {
+    for binding in subst.as_slice() {
+        print_term(alloc, &Term::Var(binding.0), out)?;
+        out.push(b'=')?;
+        print_term(alloc, &binding.1, out)?;
+    }
+    Ok(())
+}
+
 /// The bindings of a unification of two terms, each as `variable=term`, or why there is none.
-fn unification(alloc: Global, left: Term, right: Term) -> Result<Vec<u8>, AllocError> {
+fn unification(alloc: Global, left: &str, right: &str) -> Result<Vec<u8>, AllocError> {
+    let left = [term(alloc, left)?];
+    let right = [term(alloc, right)?];
     let mut out = Vec::new(alloc);
-    match unify(alloc, &[left], &[right])? {
-        Outcome::Unified(subst) => {
-            for binding in subst.as_slice() {
-                print_term(alloc, &Term::Var(binding.0), &mut out)?;
-                out.push(b'=')?;
-                print_term(alloc, &binding.1, &mut out)?;
-            }
-        }
+    match unify(alloc, &left, &right)? {
+        Outcome::Unified(subst) => write_bindings(alloc, &subst, &mut out)?,
         Outcome::Clash => out.extend_from_slice(b"clash")?,
         Outcome::Occurs => out.extend_from_slice(b"occurs")?,
     }
     Ok(out)
 }
 
+/// f(f(..,b),b), 4,096 levels deep, with the variable 0 in the middle.
+const DEEP: &str = "0b,^^^^^^^^^^^^";
+
+/// Two terms, how the text of their unification begins, and how long it is. Of the deep ones the arguments are moved: copied at
+/// each level, they would be over thirty million subterms.
+const PAIRS: [(&str, &str, &str, usize); 7] = [
+    ("0b,", "a1,", "_0=a_1=b", 8),
+    ("0", "0!", "occurs", 6),
+    ("a", "b", "clash", 5),
+    ("1", DEEP, "_1=f(f(f(", 20_485),
+    (DEEP, "0", "occurs", 6),
+    (DEEP, "0b,^^^^^^^^^^^^a=", "_0=a", 4),
+    (
+        "0123456789ABCDEFGHIJz,,,,,,,,,,,,,,,,,,,,",
+        "abcdefghijklmnopqrstz,,,,,,,,,,,,,,,,,,,,",
+        "_0=a_1=b_2=c",
+        90,
+    ),
+];
+
 #[test]
-fn terms_unify(rt: HostRuntime) -> Result<(), Fail> {
-    let alloc = rt.alloc();
+fn terms_unify_or_not(rt: HostRuntime) -> Result<(), Fail> {
     unifiers_are_most_general();
-    let left = pair(alloc, Term::Var(0), atom(alloc, b"b")?)?;
-    let right = pair(alloc, atom(alloc, b"a")?, Term::Var(1))?;
-    assert!(rt; unification(alloc, left, right)?.as_slice() == b"_0=a_1=b".as_slice());
-    Ok(())
-}
-
-#[test]
-fn terms_that_do_not_unify(rt: HostRuntime) -> Result<(), Fail> {
-    let alloc = rt.alloc();
-    let inside = Term::Compound(name(alloc, b"f")?, Args::new(vec![in alloc; Term::Var(0)]?));
-    assert!(rt; unification(alloc, Term::Var(0), inside)?.as_slice() == b"occurs".as_slice());
-    let (first, second) = (atom(alloc, b"a")?, atom(alloc, b"b")?);
-    assert!(rt; unification(alloc, first, second)?.as_slice() == b"clash".as_slice());
-    Ok(())
-}
-
-// f(f(..,b),b), 4,096 levels deep, with the variable 0 in the middle
-fn deep(alloc: Global) -> Result<Term, AllocError> {
-    let mut term = pair(alloc, Term::Var(0), atom(alloc, b"b")?)?;
-    for _ in 0..12 {
-        term = Subst::single(alloc, 0, term.copy(alloc)?)?.apply(alloc, &term)?;
+    for (left, right, start, length) in &PAIRS {
+        let found = unification(rt.alloc(), left, right)?;
+        let is_so = found.len() == *length && found.as_slice().starts_with(start.as_bytes());
+        assert!(rt; is_so, "{left} {right}");
     }
-    Ok(term)
+    Ok(())
+}
+
+/// How many subterms and arguments a term has.
+fn sizes(alloc: Global, term: &Term) -> Result<(usize, usize), AllocError> {
+    Ok((term.nodes(alloc)?.len(), term.arguments().len()))
 }
 
 #[test]
 fn deep_terms_are_walked(rt: HostRuntime) -> Result<(), Fail> {
-    let alloc = rt.alloc();
-    let term = deep(alloc)?;
-    assert_eq!(rt; term.nodes(alloc)?.len(), 8193);
-    assert_eq!(rt; term.arguments().len(), 2);
-    assert!(rt; unification(alloc, Term::Var(1), term.copy(alloc)?)?.len() == 5 * 4096 + 5);
-    assert!(rt; unification(alloc, term, Term::Var(0))?.as_slice() == b"occurs".as_slice());
-    Ok(())
-}
-
-// The arguments are moved: copied at each level, they would be over thirty million subterms.
-#[test]
-fn deep_terms_unify(rt: HostRuntime) -> Result<(), Fail> {
-    let alloc = rt.alloc();
-    let (left, other) = (deep(alloc)?, atom(alloc, b"a")?);
-    let right = Subst::single(alloc, 0, other)?.apply(alloc, &left)?;
-    assert!(rt; unification(alloc, left, right)?.as_slice() == b"_0=a".as_slice());
-    Ok(())
-}
-
-/// Variables numbered from 0, and as many integers, each nested in compounds of two.
-fn chains(alloc: Global, count: u32) -> Result<(Term, Term), AllocError> {
-    let mut left = atom(alloc, b"a")?;
-    let mut right = atom(alloc, b"a")?;
-    for i in 0..count {
-        left = pair(alloc, Term::Var(i), left)?;
-        right = pair(alloc, Term::Int(i as i128), right)?;
-    }
-    Ok((left, right))
-}
-
-#[test]
-fn twenty_variables_are_bound(rt: HostRuntime) -> Result<(), Fail> {
-    let alloc = rt.alloc();
-    let (left, right) = chains(alloc, 20)?;
-    let Outcome::Unified(bindings) = unify(alloc, &[left], &[right])? else {
-        return Err(Fail::new("no unifier"));
-    };
-    assert_eq!(rt; bindings.as_slice().len(), 20);
-    for binding in bindings.as_slice() {
-        assert!(rt; binding.1 == Term::Int(binding.0 as i128));
-    }
+    let found = sizes(rt.alloc(), &term(rt.alloc(), DEEP)?)?;
+    assert!(rt; found == (8193, 2));
     Ok(())
 }

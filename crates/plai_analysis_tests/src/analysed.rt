@@ -1,12 +1,12 @@
-// A program of text, and a program analysed by each of the two engines.
+// A program of text, and a program analysed.
 ghost use Rattle.std.specs.Prelude.{◌≡◌, ◌<◌};
 
 use plai_base::Steps;
 use plai_clauses::Program;
 use plai_domain::{Domain, Tally, Work};
+use plai_fix::SolveFail;
 use plai_modules::{NamedText, Text, load};
 use plai_render::TextTable;
-use plai_fix::SolveFail;
 use plai_terms::Listed;
 use std::alloc::Global;
 use std::marker::Brand;
@@ -61,29 +61,4 @@ pub(crate) fn by_work<D: Domain>(
     limit: u64,
 ) -> Result<TextTable, SolveFail> {
     by_told_work(alloc, domain, program, limit, &mut Tally::new())
-}
-
-fn rounds_counted<D: Domain, L: Ledger>(
-    alloc: Global,
-    domain: &D,
-    program: &Program,
-    limit: u64,
-    blank: Blank,
-) -> Result<TextTable, SolveFail>
-    requires name { blank.name ≡ L.name }
-    requires parts { blank.parts ≡ L.parts }
-    requires some { 0 < blank.parts }
-{
-    let mut steps = Steps::<L>::new(blank);
-    plai_rounds::analyse(alloc, domain, program, limit, &mut Tally::new(), &mut steps)
-}
-
-/// By rounds.
-pub(crate) fn by_rounds<D: Domain>(
-    alloc: Global,
-    domain: &D,
-    program: &Program,
-    limit: u64,
-) -> Result<TextTable, SolveFail> {
-    rounds_counted::<D, Brand>(alloc, domain, program, limit, Blank::new(1))
 }

@@ -1,4 +1,4 @@
-use Rattle.plai_analysis_tests.proofs.engines.by_told_work.Given as goal
+use Rattle.plai_analysis_tests.proofs.analysed.by_told_work.Given as goal
 
 abbrev pub ghosts-work_counted : goal.ghosts-work_counted
 ghosts-work_counted g a = record { name = a.blank.name; parts = a.blank.parts }
